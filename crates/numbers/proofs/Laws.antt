@@ -1,0 +1,109 @@
+-- What holds of tables, sums and tests over an index, and of a loop that fills a list from the front. Assumes nothing.
+use mathlib.Core.Path.{_≡_, refl, ap, ap₂, _∙_}
+use mathlib.Core.Logic.{⊎-elim}
+use mathlib.Core.List.{List, [], _∷_, _++_, append-assoc}
+use mathlib.Core.Bool.{Bool, true, false, cond, _&&_}
+use Prim.Native.Nat.{ℕ, zero, suc, _+_, _-_, _*_, _≤_, _<_}
+use native.Mathlib.Nat.{not-suc-le-zero, le-of-suc-le-suc, eq-or-lt-of-le, le-refl, le-step, le-trans, le-antisymm, sub-zero, zero-sub, suc-sub-suc}
+use native.Mathlib.Numerals.{add-one}
+use native.Mathlib.Omega.{arith}
+use native.Mathlib.Decide.{le-ind, decLt}
+use borrow.Author.Tests.{leb-true}
+use lib.Dec.{leb}
+use lib.ListN.{length, getD, drop, set, length-append, length-set, List·getD-append, List·getD-eq-default}
+use lib.Seq.{drop-cons, set-at, getD-at}
+use Rattle.numbers.specs.Lists.{tab, sumTo, allTo, sum, at, zeros, padded, noneAbove, Filled}
+
+pub and-left : (a b : Bool) → (a && b) ≡ true → a ≡ true
+and-left true b e = refl
+and-left false b e = e
+
+pub and-right : (a b : Bool) → (a && b) ≡ true → b ≡ true
+and-right true b e = e
+and-right false true e = refl
+and-right false false e = e
+
+pub sum-snoc : (xs : List ℕ) (x : ℕ) → sum (xs ++ (x ∷ [])) ≡ sum xs + x
+sum-snoc [] x = omega arith
+sum-snoc (y ∷ xs) x = omega (arith, sum-snoc xs x)
+
+pub length-tab : (n : ℕ) (f : ℕ → ℕ) → length (tab n f) ≡ n
+length-tab zero f = refl
+length-tab (suc n) f = simp length-append (omega (arith, length-tab n f))
+
+pub sum-tab : (n : ℕ) (f : ℕ → ℕ) → sum (tab n f) ≡ sumTo f n
+sum-tab zero f = refl
+sum-tab (suc n) f = omega (arith, sum-snoc (tab n f) (f n), sum-tab n f)
+
+pub at-tab : (n : ℕ) (f : ℕ → ℕ) (h : ℕ) → h < n → at (tab n f) h ≡ f h
+at-tab zero f h l = absurd (not-suc-le-zero l)
+at-tab (suc n) f h l =
+    ⊎-elim
+    (λ e. rw e (getD-at (tab n f) (f n) [] 0 n (length-tab n f)))
+    (λ k. List·getD-append (tab n f) (f n ∷ []) 0 h (rw (length-tab n f) k) ∙ at-tab n f h k)
+    (eq-or-lt-of-le (le-of-suc-le-suc l))
+
+-- functions that agree below n have the same table and the same sum
+pub tab-same : (n : ℕ) (f g : ℕ → ℕ) → ((h : ℕ) → h < n → f h ≡ g h) → tab n f ≡ tab n g
+tab-same zero f g e = refl
+tab-same (suc n) f g e = ap₂ (λ (l : List ℕ) (x : ℕ). l ++ (x ∷ [])) (tab-same n f g (λ h l. e h (le-step l))) (e n (le-refl _))
+
+pub sum-same : (n : ℕ) (f g : ℕ → ℕ) → ((h : ℕ) → h < n → f h ≡ g h) → sumTo f n ≡ sumTo g n
+sum-same zero f g e = refl
+sum-same (suc n) f g e = ap₂ (λ (a b : ℕ). a + b) (sum-same n f g (λ h l. e h (le-step l))) (e n (le-refl _))
+
+pub sum-up : (f : ℕ → ℕ) {h n : ℕ} → h ≤ n → sumTo f h ≤ sumTo f n
+sum-up f {h} {n} l = le-ind (λ (m : ℕ). sumTo f h ≤ sumTo f m) (omega arith) (λ m k e. omega arith) n l
+
+pub sum-both : (f g : ℕ → ℕ) (n : ℕ) → sumTo (λ h. f h + g h) n ≡ sumTo f n + sumTo g n
+sum-both f g zero = refl
+sum-both f g (suc n) = omega (arith, sum-both f g n)
+
+-- n numbers of at most k each
+pub sum-most : (f : ℕ → ℕ) (k n : ℕ) → ((h : ℕ) → f h ≤ k) → sumTo f n ≤ k * n
+sum-most f k zero e = omega arith
+sum-most f k (suc n) e = omega (arith, sum-most f k n e, e n)
+
+pub sum-ones : (n : ℕ) → sumTo (λ h. 1) n ≡ n
+sum-ones zero = refl
+sum-ones (suc n) = omega (arith, sum-ones n)
+
+-- a test of all indexes below n is a test of each
+pub all-at : (f : ℕ → Bool) (n k : ℕ) → allTo f n ≡ true → k < n → f k ≡ true
+all-at f zero k e l = absurd (not-suc-le-zero l)
+all-at f (suc n) k e l =
+    ⊎-elim
+    (λ i. rw i (and-right (allTo f n) _ e))
+    (λ m. all-at f n k (and-left (allTo f n) _ e) m)
+    (eq-or-lt-of-le (le-of-suc-le-suc l))
+
+pub none-above-at : (limit : ℕ) (xs : List ℕ) → noneAbove limit xs ≡ true → (k : ℕ) → at xs k ≤ limit
+unfolding noneAbove
+none-above-at limit xs e k =
+    elim (decLt k (length xs)) [
+      | yes l ↦ leb-true _ _ (all-at (λ j. leb (at xs j) limit) (length xs) k e l)
+      | no f ↦ rw (List·getD-eq-default xs 0 {n = k} (omega arith)) (omega arith)
+    ]
+
+-- A loop that fills a list d from the front, one store a turn: before the first turn, after one more, and at the end.
+pub filled-none : (f : ℕ → ℕ) (d : List ℕ) → Filled f d d 0
+filled-none f d = record { long = refl; is = refl }
+
+pub filled-more : {f : ℕ → ℕ} {d l : List ℕ} {h x : ℕ} → Filled f d l h → h < length d → x ≡ f h → Filled f d (set l h x) (h + 1)
+filled-more {f} {d} {l} {h} {x} filled lt e = record {
+  long = simp length-set (filled .long);
+  is = rw (filled .is, add-one, e, drop-cons d h 0, set-at (tab h f) _ _ (f h) h (length-tab h f), append-assoc);
+}
+
+pub filled-end : {f : ℕ → ℕ} {d l : List ℕ} {h n : ℕ} → Filled f d l h → h ≤ n → n ≤ h → Filled f d l n
+filled-end filled a b = rw (le-antisymm b a) filled
+
+drop-zeros : (t n : ℕ) → drop t (zeros n) ≡ zeros (n - t)
+drop-zeros zero n = rw sub-zero
+drop-zeros (suc t) zero = rw zero-sub
+drop-zeros (suc t) (suc n) = rw suc-sub-suc (drop-zeros t n)
+
+-- the front of a list of zeros, filled
+pub filled-padded : {f : ℕ → ℕ} {d l : List ℕ} {n : ℕ} (m : ℕ) → Filled f d l n → d ≡ zeros m → l ≡ padded m (tab n f)
+unfolding padded
+filled-padded {f} {d} {l} {n} m filled e = filled .is ∙ rw (e, drop-zeros, length-tab n f)

@@ -1,0 +1,33 @@
+use mathlib.Core.Path.{_≡_, refl}
+use Prim.Native.Nat.{ℕ, _≤_, _-_}
+use native.Mathlib.Omega.{arith}
+use native.Mathlib.Numerals.{add-one}
+use lib.Dec.{leb}
+use lib.ListN.{length}
+use Rattle.numbers.specs.Lists.{allTo, at, noneAbove}
+use Rattle.numbers.proofs.none_above.Statement.{statement}
+use Rattle.numbers.proofs.none_above.Tie as tie
+
+abbrev Inv-loop : tie.InvT-loop
+Inv-loop words limit ok₀ i₀ ok i = (i ≤ length words) × (ok ≡ allTo (λ k. leb (at words k) limit) i)
+
+abbrev μ-loop : tie.MeasureT-loop
+μ-loop words limit ok₀ i₀ ok i = length words - i
+
+returns : tie.Need-returns Inv-loop μ-loop
+unfolding noneAbove
+returns c = let e : c .before .loop .i ≡ length (c .before .before .args .words .now) = omega arith in rw e at (c .before .loop .inv .1)
+
+pub none-above-spec : {M : Type 1} → statement M
+none-above-spec =
+    tie.close
+    (tie.spec
+    Inv-loop
+    μ-loop
+    (λ c. (omega arith, refl))
+    (λ c. omega arith)
+    (λ c. omega arith)
+    (λ c. omega arith)
+    (λ c. omega arith)
+    (λ c. (omega arith, rw (add-one, c .before .before .loop .inv .1)))
+    returns)

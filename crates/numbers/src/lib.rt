@@ -1,0 +1,72 @@
+// Numbers and lists of numbers: what the rules of every other crate are written with.
+ghost use mathlib.Core.Path.{_≡_};
+ghost use mathlib.Core.Bool.{cond};
+ghost use Prim.Native.Nat.{min};
+ghost use lib.ListN.{length};
+ghost use Rattle.numbers.specs.Lists.{zeros, noneAbove};
+ghost use Rattle.numbers.specs.Rounding.{halfUp};
+
+pub fn wide(x: u32) -> u64
+    ensures { λ r. ⌜ r ≡ x ⌝ }
+{
+    x as u64
+}
+
+// x where b holds, else y.
+pub fn pick(b: bool, x: u32, y: u32) -> u32
+    ensures { λ r. ⌜ r ≡ cond b x y ⌝ }
+{
+    if b { x } else { y }
+}
+
+// The same for wide numbers.
+pub fn pick_wide(b: bool, x: u64, y: u64) -> u64
+    ensures { λ r. ⌜ r ≡ cond b x y ⌝ }
+{
+    if b { x } else { y }
+}
+
+pub fn least(a: u64, b: u64) -> u64
+    ensures { λ r. ⌜ r ≡ min a b ⌝ }
+{
+    if a <= b { a } else { b }
+}
+
+// x / d rounded half up, and 0 where d is 0.
+pub fn half_up(x: u64, d: u64) -> u64
+    ensures { λ r. ⌜ r ≡ halfUp x d ⌝ }
+{
+    if d == 0 {
+        return 0;
+    }
+    let q = x / d;
+    let left = x % d;
+    if left >= d - left {
+        return q + 1;
+    }
+    q
+}
+
+// Every word becomes 0.
+pub fn clear(words: &mut [u32])
+    ensures { λ _. ⌜ now (words .exit) ≡ zeros (length (now (words .entry))) ⌝ }
+{
+    let mut i = 0;
+    while i < words.len() {
+        words[i] = 0;
+        i += 1;
+    }
+}
+
+// Whether no word is above the limit. The flag has no early return, so that the loop takes several words at a time.
+pub fn none_above(words: &[u32], limit: u32) -> bool
+    ensures { λ r. ⌜ r ≡ noneAbove limit (now (words .entry)) ⌝ }
+{
+    let mut ok = true;
+    let mut i = 0;
+    while i < words.len() {
+        ok = ok & (words[i] <= limit);
+        i += 1;
+    }
+    ok
+}

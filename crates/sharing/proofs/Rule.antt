@@ -1,0 +1,109 @@
+-- The laws of the sharing rule on lists of every length from 1 on, over any selection of hours. Assumes nothing.
+use mathlib.Core.Path.{_≡_, refl, sym, _∙_}
+use mathlib.Core.List.{List}
+use mathlib.Core.Bool.{Bool, true, false, cond, not, false≢true}
+use Prim.Native.Nat.{ℕ, zero, suc, _+_, _-_, _*_, _≤_, _<_}
+use native.Mathlib.Nat.{pos-of-ne-zero}
+use native.Mathlib.Omega.{arith}
+use borrow.Author.Tests.{eq-eqb, ne-eqb, eqb-false}
+use lib.Dec.{eqb}
+use lib.ListN.{length}
+use Rattle.numbers.specs.Lists.{tab, sumTo, sum, at}
+use Rattle.numbers.proofs.Laws.{sum-tab, sum-same, sum-ones, sum-both, length-tab, at-tab}
+use Rattle.sharing.specs.Shares.{one, within, orElse, taken, share, spread, sharesOver, sharesApart, shares, every}
+use Rattle.sharing.proofs.Laws.{Near, sum-spread, sum-share, near-share, length-spread, at-spread, spread-same}
+
+-- of two kinds of weights, the sum is that of the kind that counts
+or-sum : (n : ℕ) (w u : ℕ → ℕ) → sumTo (orElse n w u) n ≡ cond (eqb (sumTo w n) 0) (sumTo u n) (sumTo w n)
+or-sum n w u = go (eqb (sumTo w n) 0)
+  where
+    go : (b : Bool) → sumTo (λ h. cond b (u h) (w h)) n ≡ cond b (sumTo u n) (sumTo w n)
+    go true = refl
+    go false = refl
+
+-- the sum of the weights as they are taken, as the code has it
+pub taken-sum : (n : ℕ) (chosen : ℕ → Bool) (w : ℕ → ℕ)
+    → sumTo (taken n chosen w) n
+    ≡ cond (eqb (sumTo (within chosen w) n) 0) (cond (eqb (sumTo (within chosen one) n) 0) n (sumTo (within chosen one) n)) (sumTo (within chosen w) n)
+unfolding taken
+taken-sum n chosen w =
+    or-sum n (within chosen w) (orElse n (within chosen one) one)
+    ∙ rw (or-sum n (within chosen one) one, sum-ones)
+
+pub taken-some : (n : ℕ) (chosen : ℕ → Bool) (w : ℕ → ℕ) → 0 < n → 0 < sumTo (taken n chosen w) n
+taken-some n chosen w p = rw (taken-sum n chosen w) (outer (eqb (sumTo (within chosen w) n) 0) refl)
+  where
+    inner : (b : Bool) → eqb (sumTo (within chosen one) n) 0 ≡ b → 0 < cond b n (sumTo (within chosen one) n)
+    inner true e = p
+    inner false e = pos-of-ne-zero (eqb-false _ _ e)
+
+    outer : (b : Bool) → eqb (sumTo (within chosen w) n) 0 ≡ b → 0 < cond b (cond (eqb (sumTo (within chosen one) n) 0) n (sumTo (within chosen one) n)) (sumTo (within chosen w) n)
+    outer true e = inner (eqb (sumTo (within chosen one) n) 0) refl
+    outer false e = pos-of-ne-zero (eqb-false _ _ e)
+
+module _ (v : ℕ) (chosen : ℕ → Bool) (ws : List ℕ) where
+  -- law: as many shares as weights
+  pub length-shares : length (sharesOver v chosen ws) ≡ length ws
+  unfolding sharesOver
+  length-shares = length-spread v (length ws) _
+
+  module _ (some : 0 < length ws) where
+    -- law: the shares sum to the volume
+    pub sum-shares : sum (sharesOver v chosen ws) ≡ v
+    unfolding sharesOver
+    sum-shares = sum-spread v (length ws) _ (taken-some (length ws) chosen (at ws) some)
+
+    -- law: each is less than one kWh from its exact share
+    pub near-shares : (h : ℕ) → h < length ws
+        → Near (at (sharesOver v chosen ws) h) v (taken (length ws) chosen (at ws) h) (sumTo (taken (length ws) chosen (at ws)) (length ws))
+    unfolding sharesOver
+    near-shares h l =
+        rw (at-spread v (length ws) (taken (length ws) chosen (at ws)) h l)
+        (near-share v (length ws) (taken (length ws) chosen (at ws)) (taken-some (length ws) chosen (at ws) some) h)
+
+-- law: over all hours, weights that sum to 0 count as 1 each, and others as they are
+pub taken-zero : (n : ℕ) (w : ℕ → ℕ) → sumTo w n ≡ 0 → (h : ℕ) → taken n every w h ≡ 1
+unfolding taken
+taken-zero n w e h = outer (eqb (sumTo w n) 0) (eq-eqb (sumTo w n) 0 e) (eqb (sumTo one n) 0)
+  where
+    outer : (b : Bool) → b ≡ true → (k : Bool) → cond b (cond k (one h) (one h)) (w h) ≡ one h
+    outer true t true = refl
+    outer true t false = refl
+    outer false t k = absurd (false≢true t)
+
+pub taken-given : (n : ℕ) (w : ℕ → ℕ) → 0 < sumTo w n → (h : ℕ) → taken n every w h ≡ w h
+unfolding taken
+taken-given n w p h = outer (eqb (sumTo w n) 0) (ne-eqb (sumTo w n) 0 (omega arith))
+  where
+    outer : (b : Bool) → b ≡ false → cond b (cond (eqb (sumTo one n) 0) (one h) (one h)) (w h) ≡ w h
+    outer true t = absurd (false≢true (sym t))
+    outer false t = refl
+
+-- weights may be given as a list or as a function
+pub taken-same : (n : ℕ) (chosen : ℕ → Bool) (w u : ℕ → ℕ) → ((h : ℕ) → h < n → w h ≡ u h) → (h : ℕ) → h < n → taken n chosen w h ≡ taken n chosen u h
+unfolding taken
+taken-same n chosen w u e h l =
+    rw (sum-same n (within chosen w) (within chosen u) (λ k m. rw (e k m)), e h l)
+
+pub shares-tab : (v n : ℕ) (chosen : ℕ → Bool) (w : ℕ → ℕ) → sharesOver v chosen (tab n w) ≡ spread v n (taken n chosen w)
+unfolding sharesOver
+shares-tab v n chosen w =
+    rw (length-tab n w) (spread-same v n _ _ (taken-same n chosen (at (tab n w)) w (at-tab n w)))
+
+-- two volumes, shared apart: as many shares as hours, which sum to both
+pub length-apart : (a b : ℕ) (chosen : ℕ → Bool) (n : ℕ) → length (sharesApart a b chosen n) ≡ n
+unfolding sharesApart
+length-apart a b chosen n = length-tab n _
+
+pub sum-apart : (a b : ℕ) (chosen : ℕ → Bool) (n : ℕ) → 0 < n → sum (sharesApart a b chosen n) ≡ a + b
+unfolding sharesApart
+sum-apart a b chosen n some =
+    let f : ℕ → ℕ = share a n (taken n chosen one) in
+    let g : ℕ → ℕ = share b n (taken n (λ k. not (chosen k)) one) in
+    sum-tab n (λ h. f h + g h)
+    ∙ omega (
+      arith,
+      sum-both f g n,
+      sum-share a n (taken n chosen one) (taken-some n chosen one some),
+      sum-share b n (taken n (λ k. not (chosen k)) one) (taken-some n (λ k. not (chosen k)) one some),
+    )

@@ -1,0 +1,80 @@
+-- Sharing a volume (document 01): how a volume V is shared over hours by weights w. Weights are a function of the hour, which counts from 0.
+use Prim.Native.Nat.{ℕ, suc, _+_, _-_, _*_, _/_}
+use mathlib.Core.Path.{_≡_}
+use mathlib.Core.List.{List}
+use mathlib.Core.Bool.{Bool, true, false, cond, not, _&&_}
+use lib.ListN.{length, getD}
+use lib.Dec.{eqb, ltb, leb}
+use Rattle.numbers.specs.Lists.{tab, sumTo, at, padded}
+
+-- THE QUOTIENT and its rounding: what of v falls to weights of a out of s, in whole kWh
+unfoldable pub portion : ℕ → ℕ → ℕ → ℕ
+portion v a s = v * a / s
+
+abbrev pub one : ℕ → ℕ
+one h = 1
+
+-- the weights of the chosen hours, and 0 in the others
+abbrev pub within : (ℕ → Bool) → (ℕ → ℕ) → ℕ → ℕ
+within chosen w h = cond (chosen h) (w h) 0
+
+-- the weights w, or u where w sums to 0 over the n hours
+abbrev pub orElse : ℕ → (ℕ → ℕ) → (ℕ → ℕ) → ℕ → ℕ
+orElse n w u h = cond (eqb (sumTo w n) 0) (u h) (w h)
+
+-- the weights of n hours as they are taken: those of the chosen hours; where these sum to 0, 1 in each chosen hour; where none is chosen, 1 in every hour
+unfoldable pub taken : ℕ → (ℕ → Bool) → (ℕ → ℕ) → ℕ → ℕ
+taken n chosen w = orElse n (within chosen w) (orElse n (within chosen one) one)
+
+-- what of v falls before hour h: the weights before it, s(h - 1), out of all, S
+abbrev pub upTo : ℕ → ℕ → (ℕ → ℕ) → ℕ → ℕ
+upTo v n w h = portion v (sumTo w h) (sumTo w n)
+
+-- the share of hour h
+abbrev pub share : ℕ → ℕ → (ℕ → ℕ) → ℕ → ℕ
+share v n w h = upTo v n w (suc h) - upTo v n w h
+
+-- v shared over n hours by weights as they are taken
+unfoldable pub spread : ℕ → ℕ → (ℕ → ℕ) → List ℕ
+spread v n w = tab n (share v n w)
+
+-- THE RULE: v shared by a list of weights over the chosen hours, and over all of them
+unfoldable pub sharesOver : ℕ → (ℕ → Bool) → List ℕ → List ℕ
+sharesOver v chosen ws = spread v (length ws) (taken (length ws) chosen (at ws))
+
+abbrev pub every : ℕ → Bool
+every h = true
+
+abbrev pub shares : ℕ → List ℕ → List ℕ
+shares v ws = sharesOver v every ws
+
+-- the first volume shared evenly over the chosen of n hours, the second evenly over the others
+unfoldable pub sharesApart : ℕ → ℕ → (ℕ → Bool) → ℕ → List ℕ
+sharesApart a b chosen n = tab n (λ h. share a n (taken n chosen one) h + share b n (taken n (λ k. not (chosen k)) one) h)
+
+-- hour h of the past: where it lacks that hour, its hour h - 168
+abbrev pub pastAt : List ℕ → ℕ → ℕ
+pastAt past h = cond (ltb h (length past)) (at past h) (at past (h - 168))
+
+-- the past of a month of t hours
+unfoldable pub stretched : List ℕ → ℕ → List ℕ
+stretched past t = tab t (pastAt past)
+
+-- a selection of hours as a list
+abbrev pub chosenAt : List Bool → ℕ → Bool
+chosenAt chosen h = getD chosen h false
+
+-- THE LIMITS of the functions, so that every number fits: a month's hours, the greatest volume of a month (744 × 1,000,000) and the greatest sum of a row (744 × 3,000,000)
+unfoldable pub volumeFits : ℕ → Bool
+volumeFits v = leb v 744000000
+
+unfoldable pub hoursFit : ℕ → ℕ → Bool
+hoursFit t room = leb 1 t && (leb t 744 && leb t room)
+
+unfoldable pub weightsFit : ℕ → Bool
+weightsFit s = leb s 2232000000
+
+-- WHAT A CONTRACT SAYS of a sharing into the buffer `before`: done where its numbers fit, else the buffer is as it was
+pub record Shared (fits : Bool) (hours before after : List ℕ) (r : Bool) : Type 0 where
+  pub done : r ≡ fits
+  pub left : after ≡ cond fits (padded (length before) hours) before

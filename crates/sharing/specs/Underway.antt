@@ -1,0 +1,48 @@
+-- A sharing under way, as the code carries it from hour to hour.
+use Prim.Native.Nat.{ℕ, _+_, _-_, _*_, _≤_, _<_}
+use mathlib.Core.Path.{_≡_}
+use Rattle.numbers.specs.Lists.{sumTo}
+use Rattle.sharing.specs.Shares.{portion, upTo}
+use Rattle.sharing.specs.declared.Progress.{Progress}
+
+-- before the first hour, of a volume v by weights that sum to s
+abbrev pub started : ℕ → ℕ → Progress
+started v s = record { volume = v; whole = s; passed = 0; done = 0 }
+
+-- after one hour more, of weight x
+abbrev pub stepped : Progress → ℕ → Progress
+stepped p x =
+    record { volume = p .volume; whole = p .whole; passed = p .passed + x; done = portion (p .volume) (p .passed + x) (p .whole) }
+
+-- before hour h of the sharing of v over n hours by the weights w
+abbrev pub running : ℕ → ℕ → (ℕ → ℕ) → ℕ → Progress
+running v n w h = record { volume = v; whole = sumTo w n; passed = sumTo w h; done = upTo v n w h }
+
+-- the numbers of a quotient, within the limits
+pub record Divides (v a s : ℕ) : Type 0 where
+  pub some : 0 < s
+  pub part : a ≤ s
+  pub volume : v ≤ 744000000
+  pub weights : s ≤ 2232000000
+
+-- what a step needs, so that its numbers fit
+pub record Ready (p : Progress) (x : ℕ) : Type 0 where
+  pub divides : Divides (p .volume) (p .passed + x) (p .whole)
+  pub done : p .done ≡ portion (p .volume) (p .passed) (p .whole)
+
+-- p and q are a sharing before and after an hour, whose share fits 32 bits
+pub record Gains (p q : Progress) : Type 0 where
+  pub up : p .done ≤ q .done
+  pub small : q .done ≤ 744000000
+
+-- and r is that share
+pub record Gained (p q : Progress) (r : ℕ) : Type 0 where
+  pub is : r ≡ q .done - p .done
+  pub small : r ≤ 744000000
+
+-- p is the sharing of v over n hours by the weights w before hour h, and its numbers fit
+pub record Under (v n : ℕ) (w : ℕ → ℕ) (p : Progress) (h : ℕ) : Type 0 where
+  pub is : p ≡ running v n w h
+  pub some : 0 < sumTo w n
+  pub volume : v ≤ 744000000
+  pub weights : sumTo w n ≤ 2232000000
