@@ -23,6 +23,10 @@ and-right true b e = e
 and-right false true e = refl
 and-right false false e = e
 
+pub cond-most : (b : Bool) {x y k : ℕ} → x ≤ k → y ≤ k → cond b x y ≤ k
+cond-most true p q = p
+cond-most false p q = q
+
 pub sum-snoc : (xs : List ℕ) (x : ℕ) → sum (xs ++ (x ∷ [])) ≡ sum xs + x
 sum-snoc [] x = omega arith
 sum-snoc (y ∷ xs) x = omega (arith, sum-snoc xs x)

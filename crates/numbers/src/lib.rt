@@ -1,9 +1,9 @@
 // Numbers and lists of numbers: what the rules of every other crate are written with.
 ghost use mathlib.Core.Path.{_≡_};
 ghost use mathlib.Core.Bool.{cond};
-ghost use Prim.Native.Nat.{min};
+ghost use Prim.Native.Nat.{min, _≤_};
 ghost use lib.ListN.{length};
-ghost use Rattle.numbers.specs.Lists.{zeros, noneAbove};
+ghost use Rattle.numbers.specs.Lists.{at, zeros, noneAbove};
 ghost use Rattle.numbers.specs.Rounding.{halfUp};
 
 pub fn wide(x: u32) -> u64
@@ -24,6 +24,13 @@ pub fn pick_wide(b: bool, x: u64, y: u64) -> u64
     ensures { λ r. ⌜ r ≡ cond b x y ⌝ }
 {
     if b { x } else { y }
+}
+
+// 1 where b holds, else 0.
+pub fn bit(b: bool) -> u64
+    ensures { λ r. ⌜ (r ≡ cond b 1 0) × (r ≤ 1) ⌝ }
+{
+    if b { 1 } else { 0 }
 }
 
 pub fn least(a: u64, b: u64) -> u64
@@ -69,4 +76,11 @@ pub fn none_above(words: &[u32], limit: u32) -> bool
         i += 1;
     }
     ok
+}
+
+// Word k, and 0 past the end.
+pub fn word_at(words: &[u32], k: usize) -> u64
+    ensures { λ r. ⌜ (r ≡ at (now (words .entry)) k) × (r ≤ 4294967295) ⌝ }
+{
+    if k < words.len() { wide(words[k]) } else { 0 }
 }

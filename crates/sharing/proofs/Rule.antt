@@ -10,7 +10,7 @@ use lib.Dec.{eqb}
 use lib.ListN.{length}
 use Rattle.numbers.specs.Lists.{tab, sumTo, sum, at}
 use Rattle.numbers.proofs.Laws.{sum-tab, sum-same, sum-ones, sum-both, length-tab, at-tab}
-use Rattle.sharing.specs.Shares.{one, within, orElse, taken, share, spread, sharesOver, sharesApart, shares, every}
+use Rattle.sharing.specs.Shares.{one, within, orElse, taken, share, spread, sharesOver, apartAt, sharesApart, shares, every}
 use Rattle.sharing.proofs.Laws.{Near, sum-spread, sum-share, near-share, length-spread, at-spread, spread-same}
 
 -- of two kinds of weights, the sum is that of the kind that counts
@@ -90,13 +90,38 @@ unfolding sharesOver
 shares-tab v n chosen w =
     rw (length-tab n w) (spread-same v n _ _ (taken-same n chosen (at (tab n w)) w (at-tab n w)))
 
+-- the weights as the code works them out
+pub taken-is : (n : ℕ) (chosen : ℕ → Bool) (w : ℕ → ℕ) (h : ℕ) {s k x y : ℕ}
+    → s ≡ sumTo (within chosen w) n → k ≡ sumTo (within chosen one) n → x ≡ w h
+    → y ≡ cond (eqb s 0) (cond (eqb k 0) 1 (cond (chosen h) 1 0)) (cond (chosen h) x 0) → y ≡ taken n chosen w h
+unfolding taken
+taken-is n chosen w h e f g i = i ∙ rw (e, f, g)
+
+pub even-is : (n : ℕ) (chosen : ℕ → Bool) (h : ℕ) {k y : ℕ}
+    → k ≡ sumTo (within chosen one) n → y ≡ cond (eqb k 0) 1 (cond (chosen h) 1 0) → y ≡ taken n chosen one h
+unfolding taken
+even-is n chosen h e i = i ∙ rw e (go (eqb (sumTo (within chosen one) n) 0) (cond (chosen h) 1 0))
+  where
+    go : (b : Bool) (x : ℕ) → cond b 1 x ≡ cond b (cond b 1 x) x
+    go true x = refl
+    go false x = refl
+
+one-of : (b : Bool) → cond b 1 0 + cond (not b) 1 0 ≡ 1
+one-of true = refl
+one-of false = refl
+
+-- the chosen hours and the others are all
+pub all-hours : (chosen : ℕ → Bool) (n : ℕ) → sumTo (within chosen one) n + sumTo (within (λ k. not (chosen k)) one) n ≡ n
+all-hours chosen zero = refl
+all-hours chosen (suc n) = omega (arith, all-hours chosen n, one-of (chosen n))
+
 -- two volumes, shared apart: as many shares as hours, which sum to both
 pub length-apart : (a b : ℕ) (chosen : ℕ → Bool) (n : ℕ) → length (sharesApart a b chosen n) ≡ n
 unfolding sharesApart
 length-apart a b chosen n = length-tab n _
 
 pub sum-apart : (a b : ℕ) (chosen : ℕ → Bool) (n : ℕ) → 0 < n → sum (sharesApart a b chosen n) ≡ a + b
-unfolding sharesApart
+unfolding sharesApart apartAt
 sum-apart a b chosen n some =
     let f : ℕ → ℕ = share a n (taken n chosen one) in
     let g : ℕ → ℕ = share b n (taken n (λ k. not (chosen k)) one) in

@@ -48,9 +48,12 @@ every h = true
 abbrev pub shares : ℕ → List ℕ → List ℕ
 shares v ws = sharesOver v every ws
 
--- the first volume shared evenly over the chosen of n hours, the second evenly over the others
+-- hour h where the first volume is shared evenly over the chosen of n hours, and the second evenly over the others
+unfoldable pub apartAt : ℕ → ℕ → (ℕ → Bool) → ℕ → ℕ → ℕ
+apartAt a b chosen n h = share a n (taken n chosen one) h + share b n (taken n (λ k. not (chosen k)) one) h
+
 unfoldable pub sharesApart : ℕ → ℕ → (ℕ → Bool) → ℕ → List ℕ
-sharesApart a b chosen n = tab n (λ h. share a n (taken n chosen one) h + share b n (taken n (λ k. not (chosen k)) one) h)
+sharesApart a b chosen n = tab n (apartAt a b chosen n)
 
 -- hour h of the past: where it lacks that hour, its hour h - 168
 abbrev pub pastAt : List ℕ → ℕ → ℕ
@@ -64,13 +67,14 @@ stretched past t = tab t (pastAt past)
 abbrev pub chosenAt : List Bool → ℕ → Bool
 chosenAt chosen h = getD chosen h false
 
--- THE LIMITS of the functions, so that every number fits: a month's hours, the greatest volume of a month (744 × 1,000,000) and the greatest sum of a row (744 × 3,000,000)
-unfoldable pub volumeFits : ℕ → Bool
-volumeFits v = leb v 744000000
+abbrev pub otherAt : List Bool → ℕ → Bool
+otherAt chosen h = not (chosenAt chosen h)
 
-unfoldable pub hoursFit : ℕ → ℕ → Bool
-hoursFit t room = leb 1 t && (leb t 744 && leb t room)
+-- THE LIMITS of the functions, so that every number fits: a volume of at most 744 × 1,000,000 kWh, 1 to 744 hours and a buffer that holds them
+unfoldable pub monthFits : ℕ → ℕ → ℕ → Bool
+monthFits v t room = leb v 744000000 && leb 1 t && leb t 744 && leb t room
 
+-- and weights that sum to at most 744 × 3,000,000
 unfoldable pub weightsFit : ℕ → Bool
 weightsFit s = leb s 2232000000
 

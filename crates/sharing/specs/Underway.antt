@@ -1,8 +1,11 @@
 -- A sharing under way, as the code carries it from hour to hour.
 use Prim.Native.Nat.{ℕ, _+_, _-_, _*_, _≤_, _<_}
 use mathlib.Core.Path.{_≡_}
+use mathlib.Core.List.{List}
+use mathlib.Core.Bool.{Bool}
+use lib.ListN.{length}
 use Rattle.numbers.specs.Lists.{sumTo}
-use Rattle.sharing.specs.Shares.{portion, upTo}
+use Rattle.sharing.specs.Shares.{portion, one, within, upTo, pastAt, chosenAt, otherAt}
 use Rattle.sharing.specs.declared.Progress.{Progress}
 
 -- before the first hour, of a volume v by weights that sum to s
@@ -46,3 +49,17 @@ pub record Under (v n : ℕ) (w : ℕ → ℕ) (p : Progress) (h : ℕ) : Type 0
   pub some : 0 < sumTo w n
   pub volume : v ≤ 744000000
   pub weights : sumTo w n ≤ 2232000000
+
+-- k of the flags are set
+pub record Counts (chosen : List Bool) (k : ℕ) : Type 0 where
+  pub is : k ≡ sumTo (within (chosenAt chosen) one) (length chosen)
+  pub most : k ≤ length chosen
+
+-- m of the flags are not set
+pub record Others (chosen : List Bool) (m : ℕ) : Type 0 where
+  pub is : m ≡ sumTo (within (otherAt chosen) one) (length chosen)
+
+-- k of the flags are set, and the past's weights in these hours sum to s
+pub record Totals (past : List ℕ) (chosen : List Bool) (s k : ℕ) : Type 0 where
+  pub sum : s ≡ sumTo (within (chosenAt chosen) (pastAt past)) (length chosen)
+  pub count : k ≡ sumTo (within (chosenAt chosen) one) (length chosen)

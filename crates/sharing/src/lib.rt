@@ -6,10 +6,11 @@ ghost use Prim.Native.Nat.{ℕ, suc, _+_, _-_, _*_, _<_, _≤_};
 ghost use lib.Dec.{eqb, leb};
 ghost use lib.ListN.{length, getD};
 ghost use Rattle.numbers.specs.Lists.{sumTo, at, Filled};
-ghost use Rattle.sharing.specs.Shares.{portion, one, within, taken, share, sharesOver, sharesApart, shares, pastAt, stretched, chosenAt, volumeFits, hoursFit, weightsFit, Shared};
-ghost use Rattle.sharing.specs.Underway.{started, stepped, Divides, Ready, Gains, Gained, Under};
+ghost use Rattle.sharing.specs.Shares.{portion, one, within, taken, share, sharesOver, apartAt, sharesApart, shares, pastAt, stretched, chosenAt, otherAt, monthFits, weightsFit, Shared};
+ghost use Rattle.sharing.specs.Underway.{started, stepped, Divides, Ready, Gains, Gained, Under, Counts, Others, Totals};
+use numbers::bit;
 use numbers::pick_wide;
-use numbers::wide;
+use numbers::word_at;
 use units::Kwh;
 
 // A sharing under way: the volume V, the sum S of all weights, and of both what the hours so far have.
@@ -78,4 +79,156 @@ fn whole_of(s: u64, k: u64, n: u64) -> u64
     ensures { λ r. ⌜ r ≡ cond (eqb s 0) (cond (eqb k 0) n k) s ⌝ }
 {
     pick_wide(s == 0, pick_wide(k == 0, n, k), s)
+}
+
+// h - 168, and 0 where that is below 0.
+fn week_before(h: usize) -> usize
+    ensures { λ r. ⌜ r ≡ h - 168 ⌝ }
+{
+    if h < 168 { 0 } else { h - 168 }
+}
+
+// Hour h of the past: where it lacks that hour, its hour h - 168.
+fn past_at(past: &[u32], h: usize) -> u64
+    ensures { λ r. ⌜ (r ≡ pastAt (now (past .entry)) h) × (r ≤ 4294967295) ⌝ }
+{
+    if h < past.len() {
+        return word_at(past, h);
+    }
+    word_at(past, week_before(h))
+}
+
+// The same in a chosen hour, and 0 in another.
+fn chosen_past(past: &[u32], chosen: &[bool], h: usize) -> u64
+    requires { ⌜ h < length (now chosen) ⌝ }
+    ensures { λ r. ⌜
+        (r ≡ within (chosenAt (now (chosen .entry))) (pastAt (now (past .entry))) h)
+        × (r ≤ 4294967295)
+        ⌝ }
+{
+    if chosen[h] { past_at(past, h) } else { 0 }
+}
+
+// The number of chosen hours.
+fn count(chosen: &[bool]) -> u64
+    ensures { λ r. ⌜ Counts (now (chosen .entry)) r ⌝ }
+{
+    let mut k: u64 = 0;
+    let mut h = 0;
+    while h < chosen.len() {
+        k += bit(chosen[h]);
+        h += 1;
+    }
+    k
+}
+
+// The sum of the past's weights in the chosen hours.
+fn total(past: &[u32], chosen: &[bool]) -> u64
+    requires { ⌜ length (now chosen) ≤ 744 ⌝ }
+    ensures { λ r. ⌜ r ≡ sumTo (within (chosenAt (now (chosen .entry))) (pastAt (now (past .entry)))) (length (now (chosen .entry))) ⌝ }
+{
+    let mut s: u64 = 0;
+    let mut h = 0;
+    while h < chosen.len() {
+        s += chosen_past(past, chosen, h);
+        h += 1;
+    }
+    s
+}
+
+// The weight by which hour h is taken: s is the sum of the past's weights in the chosen hours, and k their number.
+fn weight_by_past(s: u64, k: u64, past: &[u32], chosen: &[bool], h: usize) -> u64
+    requires { ⌜ h < length (now chosen) ⌝ }
+    requires { ⌜ Totals (now past) (now chosen) s k ⌝ }
+    ensures { λ r. ⌜ r ≡ taken (length (now (chosen .entry))) (chosenAt (now (chosen .entry))) (pastAt (now (past .entry))) h ⌝ }
+{
+    taken_of(s, k, chosen[h], past_at(past, h))
+}
+
+// The hours of a sharing by the past that has not begun.
+fn fill_by_past(s: u64, k: u64, p: Progress, past: &[u32], chosen: &[bool], hours: &mut [u32])
+    requires { ⌜ Totals (now past) (now chosen) s k ⌝ }
+    requires { ⌜ Under (p .volume) (length (now chosen)) (taken (length (now chosen)) (chosenAt (now chosen)) (pastAt (now past))) p 0 ⌝ }
+    requires { ⌜ length (now chosen) ≤ length (now hours) ⌝ }
+    ensures { λ _. ⌜
+        Filled
+        (share (p .volume) (length (now (chosen .entry))) (taken (length (now (chosen .entry))) (chosenAt (now (chosen .entry))) (pastAt (now (past .entry)))))
+        (now (hours .entry)) (now (hours .exit)) (length (now (chosen .entry)))
+        ⌝ }
+{
+    let mut at = p;
+    let mut h = 0;
+    while h < chosen.len() {
+        let next = step(at, weight_by_past(s, k, past, chosen, h));
+        hours[h] = gain(at, next);
+        at = next;
+        h += 1;
+    }
+}
+
+// The weight of an hour where k hours are chosen and share evenly.
+fn even_weight(k: u64, chosen: bool) -> u64
+    ensures { λ r. ⌜ r ≡ cond (eqb k 0) 1 (cond chosen 1 0) ⌝ }
+{
+    pick_wide(k == 0, 1, bit(chosen))
+}
+
+// The weight by which hour h is taken in an even sharing over the k chosen hours.
+fn weight_chosen(k: u64, chosen: &[bool], h: usize) -> u64
+    requires { ⌜ (h < length (now chosen)) × Counts (now chosen) k ⌝ }
+    ensures { λ r. ⌜ r ≡ taken (length (now (chosen .entry))) (chosenAt (now (chosen .entry))) one h ⌝ }
+{
+    even_weight(k, chosen[h])
+}
+
+// The same over the m others.
+fn weight_other(m: u64, chosen: &[bool], h: usize) -> u64
+    requires { ⌜ (h < length (now chosen)) × Others (now chosen) m ⌝ }
+    ensures { λ r. ⌜ r ≡ taken (length (now (chosen .entry))) (otherAt (now (chosen .entry))) one h ⌝ }
+{
+    even_weight(m, !chosen[h])
+}
+
+// The hours of an even sharing that has not begun.
+fn fill_evenly(k: u64, p: Progress, chosen: &[bool], hours: &mut [u32])
+    requires { ⌜ Counts (now chosen) k ⌝ }
+    requires { ⌜ Under (p .volume) (length (now chosen)) (taken (length (now chosen)) (chosenAt (now chosen)) one) p 0 ⌝ }
+    requires { ⌜ length (now chosen) ≤ length (now hours) ⌝ }
+    ensures { λ _. ⌜
+        Filled (share (p .volume) (length (now (chosen .entry))) (taken (length (now (chosen .entry))) (chosenAt (now (chosen .entry))) one))
+        (now (hours .entry)) (now (hours .exit)) (length (now (chosen .entry)))
+        ⌝ }
+{
+    let mut at = p;
+    let mut h = 0;
+    while h < chosen.len() {
+        let next = step(at, weight_chosen(k, chosen, h));
+        hours[h] = gain(at, next);
+        at = next;
+        h += 1;
+    }
+}
+
+// The hours of two even sharings that have not begun: one over the chosen hours, of which there are k, one over the m others.
+fn fill_apart(k: u64, m: u64, p: Progress, q: Progress, chosen: &[bool], hours: &mut [u32])
+    requires { ⌜ Counts (now chosen) k × Others (now chosen) m ⌝ }
+    requires { ⌜ Under (p .volume) (length (now chosen)) (taken (length (now chosen)) (chosenAt (now chosen)) one) p 0 ⌝ }
+    requires { ⌜ Under (q .volume) (length (now chosen)) (taken (length (now chosen)) (otherAt (now chosen)) one) q 0 ⌝ }
+    requires { ⌜ length (now chosen) ≤ length (now hours) ⌝ }
+    ensures { λ _. ⌜
+        Filled (apartAt (p .volume) (q .volume) (chosenAt (now (chosen .entry))) (length (now (chosen .entry))))
+        (now (hours .entry)) (now (hours .exit)) (length (now (chosen .entry)))
+        ⌝ }
+{
+    let mut a = p;
+    let mut b = q;
+    let mut h = 0;
+    while h < chosen.len() {
+        let a1 = step(a, weight_chosen(k, chosen, h));
+        let b1 = step(b, weight_other(m, chosen, h));
+        hours[h] = gain(a, a1) + gain(b, b1);
+        a = a1;
+        b = b1;
+        h += 1;
+    }
 }
