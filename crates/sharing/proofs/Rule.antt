@@ -1,16 +1,17 @@
 -- The laws of the sharing rule on lists of every length from 1 on, over any selection of hours. Assumes nothing.
 use mathlib.Core.Path.{_≡_, refl, sym, _∙_}
 use mathlib.Core.List.{List}
-use mathlib.Core.Bool.{Bool, true, false, cond, not, false≢true}
+use mathlib.Core.Bool.{Bool, true, false, cond, not, _&&_, false≢true}
 use Prim.Native.Nat.{ℕ, zero, suc, _+_, _-_, _*_, _≤_, _<_}
 use native.Mathlib.Nat.{pos-of-ne-zero}
 use native.Mathlib.Omega.{arith}
-use borrow.Author.Tests.{eq-eqb, ne-eqb, eqb-false}
-use lib.Dec.{eqb}
+use borrow.Author.Tests.{eq-eqb, ne-eqb, eqb-false, leb-true, lt-leb}
+use lib.Dec.{eqb, leb}
 use lib.ListN.{length}
-use Rattle.numbers.specs.Lists.{tab, sumTo, sum, at}
-use Rattle.numbers.proofs.Laws.{sum-tab, sum-same, sum-ones, sum-both, length-tab, at-tab}
-use Rattle.sharing.specs.Shares.{one, within, orElse, taken, share, spread, sharesOver, apartAt, sharesApart, shares, every}
+use Rattle.numbers.specs.Lists.{tab, sumTo, sum, at, padded}
+use Rattle.numbers.proofs.Laws.{sum-tab, sum-same, sum-ones, sum-both, length-tab, at-tab, and-left, and-right}
+use Rattle.sharing.specs.Shares.{one, within, orElse, taken, share, spread, sharesOver, apartAt, sharesApart, shares, every, monthFits, Shared}
+use Rattle.sharing.specs.Underway.{Fits}
 use Rattle.sharing.proofs.Laws.{Near, sum-spread, sum-share, near-share, length-spread, at-spread, spread-same}
 
 -- of two kinds of weights, the sum is that of the kind that counts
@@ -132,3 +133,28 @@ sum-apart a b chosen n some =
       sum-share a n (taken n chosen one) (taken-some n chosen one some),
       sum-share b n (taken n (λ k. not (chosen k)) one) (taken-some n (λ k. not (chosen k)) one some),
     )
+
+-- numbers that pass the test of the limits are within them
+pub month-fits : {v t room : ℕ} → monthFits v t room ≡ true → Fits v t room
+unfolding monthFits
+month-fits {v} {t} {room} e =
+    let abc = and-left (leb v 744000000 && leb 1 t && leb t 744) (leb t room) e in
+    let ab = and-left (leb v 744000000 && leb 1 t) (leb t 744) abc in
+    record {
+      volume = leb-true _ _ (and-left (leb v 744000000) (leb 1 t) ab);
+      some = leb-true _ _ (and-right (leb v 744000000) (leb 1 t) ab);
+      hours = leb-true _ _ (and-right (leb v 744000000 && leb 1 t) (leb t 744) abc);
+      room = leb-true _ _ (and-right (leb v 744000000 && leb 1 t && leb t 744) (leb t room) e);
+    }
+
+pub month-unfit : (v t room : ℕ) → 744000000 < v → monthFits v t room ≡ false
+unfolding monthFits
+month-unfit v t room l = rw (lt-leb v 744000000 l)
+
+-- what a function answers where it shared, and where it refused
+pub shared-yes : {fits r : Bool} {hours before after : List ℕ}
+    → fits ≡ true → r ≡ true → after ≡ padded (length before) hours → Shared fits hours before after r
+shared-yes e f g = record { done = rw (e, f); left = rw e g }
+
+pub shared-no : {fits r : Bool} {hours before : List ℕ} → fits ≡ false → r ≡ false → Shared fits hours before before r
+shared-no e f = record { done = rw (e, f); left = rw e }

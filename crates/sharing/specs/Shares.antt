@@ -14,6 +14,10 @@ portion v a s = v * a / s
 abbrev pub one : ℕ → ℕ
 one h = 1
 
+-- n weights of 1: an even sharing
+abbrev pub ones : ℕ → List ℕ
+ones n = tab n one
+
 -- the weights of the chosen hours, and 0 in the others
 abbrev pub within : (ℕ → Bool) → (ℕ → ℕ) → ℕ → ℕ
 within chosen w h = cond (chosen h) (w h) 0

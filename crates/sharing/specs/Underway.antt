@@ -63,3 +63,10 @@ pub record Others (chosen : List Bool) (m : ℕ) : Type 0 where
 pub record Totals (past : List ℕ) (chosen : List Bool) (s k : ℕ) : Type 0 where
   pub sum : s ≡ sumTo (within (chosenAt chosen) (pastAt past)) (length chosen)
   pub count : k ≡ sumTo (within (chosenAt chosen) one) (length chosen)
+
+-- a volume, a number of hours and a buffer's length within the limits
+pub record Fits (v t size : ℕ) : Type 0 where
+  pub volume : v ≤ 744000000
+  pub some : 1 ≤ t
+  pub hours : t ≤ 744
+  pub room : t ≤ size

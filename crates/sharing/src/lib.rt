@@ -5,10 +5,11 @@ ghost use mathlib.Core.Bool.{cond, not, _&&_};
 ghost use Prim.Native.Nat.{ℕ, suc, _+_, _-_, _*_, _<_, _≤_};
 ghost use lib.Dec.{eqb, leb};
 ghost use lib.ListN.{length, getD};
-ghost use Rattle.numbers.specs.Lists.{sumTo, at, Filled};
-ghost use Rattle.sharing.specs.Shares.{portion, one, within, taken, share, sharesOver, apartAt, sharesApart, shares, pastAt, stretched, chosenAt, otherAt, monthFits, weightsFit, Shared};
-ghost use Rattle.sharing.specs.Underway.{started, stepped, Divides, Ready, Gains, Gained, Under, Counts, Others, Totals};
+ghost use Rattle.numbers.specs.Lists.{sumTo, padded, Filled};
+ghost use Rattle.sharing.specs.Shares.{portion, one, ones, within, taken, share, sharesOver, apartAt, sharesApart, shares, pastAt, stretched, chosenAt, otherAt, monthFits, weightsFit, Shared};
+ghost use Rattle.sharing.specs.Underway.{started, stepped, Divides, Ready, Gains, Gained, Under, Counts, Others, Totals, Fits};
 use numbers::bit;
+use numbers::clear;
 use numbers::pick_wide;
 use numbers::word_at;
 use units::Kwh;
@@ -214,7 +215,7 @@ fn fill_apart(k: u64, m: u64, p: Progress, q: Progress, chosen: &[bool], hours: 
     requires { ⌜ Counts (now chosen) k × Others (now chosen) m ⌝ }
     requires { ⌜ Under (p .volume) (length (now chosen)) (taken (length (now chosen)) (chosenAt (now chosen)) one) p 0 ⌝ }
     requires { ⌜ Under (q .volume) (length (now chosen)) (taken (length (now chosen)) (otherAt (now chosen)) one) q 0 ⌝ }
-    requires { ⌜ length (now chosen) ≤ length (now hours) ⌝ }
+    requires { ⌜ (length (now chosen) ≤ 744) × (length (now chosen) ≤ length (now hours)) ⌝ }
     ensures { λ _. ⌜
         Filled (apartAt (p .volume) (q .volume) (chosenAt (now (chosen .entry))) (length (now (chosen .entry))))
         (now (hours .entry)) (now (hours .exit)) (length (now (chosen .entry)))
@@ -231,4 +232,121 @@ fn fill_apart(k: u64, m: u64, p: Progress, q: Progress, chosen: &[bool], hours: 
         b = b1;
         h += 1;
     }
+}
+
+// Whether a volume, a number of hours and a buffer's length are within the limits.
+fn month_fits(v: u64, t: usize, room: usize) -> bool
+    ensures { λ r. ⌜ r ≡ monthFits v t room ⌝ }
+{
+    (v <= 744000000) & (1 <= t) & (t <= 744) & (t <= room)
+}
+
+// The same for the sum of two volumes.
+fn both_fit(a: u64, b: u64, t: usize, room: usize) -> bool
+    ensures { λ r. ⌜ r ≡ monthFits (a + b) t room ⌝ }
+{
+    if a <= 744000000 {
+        if b <= 744000000 {
+            return month_fits(a + b, t, room);
+        }
+    }
+    false
+}
+
+// A sharing by the past whose numbers fit.
+fn by_past(v: u64, s: u64, past: &[u32], chosen: &[bool], hours: &mut [u32])
+    requires { ⌜ Fits v (length (now chosen)) (length (now hours)) ⌝ }
+    requires { ⌜ (s ≡ sumTo (within (chosenAt (now chosen)) (pastAt (now past))) (length (now chosen))) × (s ≤ 2232000000) ⌝ }
+    ensures { λ _. ⌜
+        now (hours .exit)
+        ≡ padded (length (now (hours .entry))) (sharesOver v (chosenAt (now (chosen .entry))) (stretched (now (past .entry)) (length (now (chosen .entry)))))
+        ⌝ }
+{
+    let k = count(chosen);
+    let whole = whole_of(s, k, chosen.len() as u64);
+    clear(hours);
+    fill_by_past(s, k, start(v, whole), past, chosen, hours)
+}
+
+// The volume shared by the past over the chosen hours, 0 in the others and in the rest of the buffer. Where the numbers
+// do not fit the answer is false, and the buffer is as it was.
+pub fn share_by_past(volume: Kwh, past: &[u32], chosen: &[bool], hours: &mut [u32]) -> bool
+    ensures { λ r. ⌜
+        Shared
+        (monthFits (volume .0) (length (now (chosen .entry))) (length (now (hours .entry)))
+        && weightsFit (sumTo (within (chosenAt (now (chosen .entry))) (pastAt (now (past .entry)))) (length (now (chosen .entry)))))
+        (sharesOver (volume .0) (chosenAt (now (chosen .entry))) (stretched (now (past .entry)) (length (now (chosen .entry)))))
+        (now (hours .entry)) (now (hours .exit)) r
+        ⌝ }
+{
+    if month_fits(volume.0, chosen.len(), hours.len()) {
+        let s = total(past, chosen);
+        if s <= 2232000000 {
+            by_past(volume.0, s, past, chosen, hours);
+            return true;
+        }
+        return false;
+    }
+    false
+}
+
+// An even sharing whose numbers fit.
+fn evenly(v: u64, chosen: &[bool], hours: &mut [u32])
+    requires { ⌜ Fits v (length (now chosen)) (length (now hours)) ⌝ }
+    ensures { λ _. ⌜
+        now (hours .exit)
+        ≡ padded (length (now (hours .entry))) (sharesOver v (chosenAt (now (chosen .entry))) (ones (length (now (chosen .entry)))))
+        ⌝ }
+{
+    let k = count(chosen);
+    let whole = whole_of(k, k, chosen.len() as u64);
+    clear(hours);
+    fill_evenly(k, start(v, whole), chosen, hours)
+}
+
+// The volume shared evenly over the chosen hours, 0 in the others and in the rest of the buffer. Where the numbers do
+// not fit the answer is false, and the buffer is as it was.
+pub fn share_evenly(volume: Kwh, chosen: &[bool], hours: &mut [u32]) -> bool
+    ensures { λ r. ⌜
+        Shared (monthFits (volume .0) (length (now (chosen .entry))) (length (now (hours .entry))))
+        (sharesOver (volume .0) (chosenAt (now (chosen .entry))) (ones (length (now (chosen .entry)))))
+        (now (hours .entry)) (now (hours .exit)) r
+        ⌝ }
+{
+    if month_fits(volume.0, chosen.len(), hours.len()) {
+        evenly(volume.0, chosen, hours);
+        return true;
+    }
+    false
+}
+
+// Two even sharings whose numbers fit.
+fn apart(a: u64, b: u64, chosen: &[bool], hours: &mut [u32])
+    requires { ⌜ Fits (a + b) (length (now chosen)) (length (now hours)) ⌝ }
+    ensures { λ _. ⌜
+        now (hours .exit)
+        ≡ padded (length (now (hours .entry))) (sharesApart a b (chosenAt (now (chosen .entry))) (length (now (chosen .entry))))
+        ⌝ }
+{
+    let n = chosen.len() as u64;
+    let k = count(chosen);
+    let m = n - k;
+    clear(hours);
+    fill_apart(k, m, start(a, whole_of(k, k, n)), start(b, whole_of(m, m, n)), chosen, hours)
+}
+
+// The first volume shared evenly over the chosen hours and the second evenly over the others, and 0 in the rest of the
+// buffer. Where the numbers do not fit the answer is false, and the buffer is as it was.
+pub fn share_apart(first: Kwh, second: Kwh, chosen: &[bool], hours: &mut [u32]) -> bool
+    ensures { λ r. ⌜
+        Shared (monthFits (first .0 + second .0) (length (now (chosen .entry))) (length (now (hours .entry))))
+        (sharesApart (first .0) (second .0) (chosenAt (now (chosen .entry))) (length (now (chosen .entry))))
+        (now (hours .entry)) (now (hours .exit)) r
+        ⌝ }
+{
+    if both_fit(first.0, second.0, chosen.len(), hours.len()) {
+        apart(first.0, second.0, chosen, hours);
+        return true;
+    }
+    false
 }

@@ -1,77 +1,26 @@
+use Prim.Native.Nat.{_-_, _≤_}
+use native.Mathlib.Omega.{arith}
+use borrow.Author.Needs.{needs}
+use lib.ListN.{length}
+use Rattle.numbers.specs.Lists.{Filled}
+use Rattle.numbers.proofs.Laws.{filled-none, filled-end}
+use Rattle.sharing.specs.Shares.{one, taken, apartAt, chosenAt, otherAt}
+use Rattle.sharing.specs.Underway.{Under}
+use Rattle.sharing.proofs.Under.{under-ready, under-more, under-gain, filled-apart}
 use Rattle.sharing.proofs.fill_apart.Statement.{statement}
 use Rattle.sharing.proofs.fill_apart.Tie as tie
-use Rattle.sharing.proofs.fill_apart.Reads as reads
-use Rattle.sharing.proofs.fill_apart.Lts as lts
-use Rattle.sharing.proofs.gain.Reads as gain-reads
-use Rattle.sharing.proofs.step.Reads as step-reads
-use Rattle.sharing.proofs.weight_chosen.Reads as weight-chosen-reads
-use Rattle.sharing.proofs.weight_other.Reads as weight-other-reads
 
 abbrev Inv-loop : tie.InvT-loop
-Inv-loop k m chosen hours₀ a₀ b₀ h₀ hours a b h = ?
+Inv-loop k m chosen hours₀ a₀ b₀ h₀ hours a b h =
+    (h ≤ length chosen)
+    × (length chosen ≤ 744)
+    × (length chosen ≤ length hours₀)
+    × Under (a₀ .volume) (length chosen) (taken (length chosen) (chosenAt chosen) one) a h
+    × Under (b₀ .volume) (length chosen) (taken (length chosen) (otherAt chosen) one) b h
+    × Filled (apartAt (a₀ .volume) (b₀ .volume) (chosenAt chosen) (length chosen)) hours₀ hours h
 
 abbrev μ-loop : tie.MeasureT-loop
-μ-loop k m chosen hours₀ a₀ b₀ h₀ hours a b h = ?
-
--- src/lib.rt:226:5
-loop-holds : tie.Need-loop-holds Inv-loop μ-loop
-loop-holds c = ?
-
--- src/lib.rt:227:26
-weight-chosen-requires : tie.Need-weight-chosen-requires Inv-loop μ-loop
-weight-chosen-requires c κs = ?
-
--- src/lib.rt:227:13
-step-requires : tie.Need-step-requires Inv-loop μ-loop
-step-requires c κs = ?
-
--- src/lib.rt:228:26
-weight-other-requires : tie.Need-weight-other-requires Inv-loop μ-loop
-weight-other-requires c κs = ?
-
--- src/lib.rt:228:13
-step-requires-2 : tie.Need-step-requires-2 Inv-loop μ-loop
-step-requires-2 c κs = ?
-
--- src/lib.rt:229:20
-gain-requires : tie.Need-gain-requires Inv-loop μ-loop
-gain-requires c κs = ?
-
--- src/lib.rt:229:34
-gain-requires-2 : tie.Need-gain-requires-2 Inv-loop μ-loop
-gain-requires-2 c κs = ?
-
--- src/lib.rt:229:20
-add-hours : tie.Need-add-hours Inv-loop μ-loop
-add-hours c = ?
-
--- src/lib.rt:229:9
-mul-hours : tie.Need-mul-hours Inv-loop μ-loop
-mul-hours c = ?
-
--- src/lib.rt:229:9
-slice-write-hours : tie.Need-slice-write-hours Inv-loop μ-loop
-slice-write-hours c = ?
-
--- src/lib.rt:232:9
-add-h : tie.Need-add-h Inv-loop μ-loop
-add-h c = ?
-
--- src/lib.rt:226:5
-loop-less : tie.Need-loop-less Inv-loop μ-loop
-loop-less c = ?
-
--- src/lib.rt:226:5
-loop-again : tie.Need-loop-again Inv-loop μ-loop
-loop-again c = ?
-
--- src/lib.rt:213:1
-same-length : tie.Need-same-length Inv-loop μ-loop
-same-length c = ?
-
--- src/lib.rt:213:1
-returns : tie.Need-returns Inv-loop μ-loop
-returns c = ?
+μ-loop k m chosen hours₀ a₀ b₀ h₀ hours a b h = length chosen - h
 
 pub fill-apart-spec : {M : Type 1} → statement M
 fill-apart-spec =
@@ -79,18 +28,27 @@ fill-apart-spec =
     (tie.spec
     Inv-loop
     μ-loop
-    loop-holds
-    weight-chosen-requires
-    step-requires
-    weight-other-requires
-    step-requires-2
-    gain-requires
-    gain-requires-2
-    add-hours
-    mul-hours
-    slice-write-hours
-    add-h
-    loop-less
-    loop-again
-    same-length
-    returns)
+    (λ c. search (filled-none, needs))
+    (λ c κs. search needs)
+    (λ c κs. search (under-ready, needs))
+    (λ c κs. search needs)
+    (λ c κs. search (under-ready, needs))
+    (λ c κs. search (under-gain, needs))
+    (λ c κs. search (under-gain, needs))
+    (λ c. omega arith)
+    (λ c. omega arith)
+    (λ c. omega arith)
+    (λ c. omega arith)
+    (λ c. omega arith)
+    (λ c.
+    let steps = c .before .before in
+    let loop = steps .before .before .before .before .before .loop in (
+      omega arith,
+      search needs,
+      search needs,
+      under-more (loop .inv .3) (steps .before .before .before .weight-chosen .ensures) (steps .before .before .step .ensures),
+      under-more (loop .inv .4) (steps .before .weight-other .ensures) (steps .step2 .ensures),
+      search filled-apart,
+    ))
+    (λ c. search needs)
+    (λ c. search filled-end))

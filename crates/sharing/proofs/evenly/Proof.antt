@@ -1,0 +1,17 @@
+use native.Mathlib.Omega.{arith}
+use borrow.Author.Needs.{needs}
+use Rattle.sharing.proofs.Under.{under-even, shared}
+use Rattle.sharing.proofs.evenly.Statement.{statement}
+use Rattle.sharing.proofs.evenly.Tie as tie
+
+pub evenly-spec : {M : Type 1} → statement M
+evenly-spec =
+    tie.close
+    (tie.spec
+    (λ c κs. tt)
+    (λ c κs. tt)
+    (λ c κs. tt)
+    (λ c κs. tt)
+    (λ c κs. (search needs, (search (under-even, needs), search needs)))
+    (λ c. search needs)
+    (λ c. search (shared, needs)))
