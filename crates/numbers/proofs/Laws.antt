@@ -14,6 +14,10 @@ use lib.ListN.{length, getD, drop, set, length-append, length-set, List·getD-ap
 use lib.Seq.{drop-cons, set-at, getD-at}
 use Rattle.numbers.specs.Lists.{tab, sumTo, allTo, sum, at, zeros, padded, noneAbove, Filled}
 
+pub by-cases {ℓ} : {P : Type ℓ} (b : Bool) → (b ≡ true → P) → (b ≡ false → P) → P
+by-cases true f g = f refl
+by-cases false f g = g refl
+
 pub and-left : (a b : Bool) → (a && b) ≡ true → a ≡ true
 and-left true b e = refl
 and-left false b e = e

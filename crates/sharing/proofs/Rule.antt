@@ -5,11 +5,11 @@ use mathlib.Core.Bool.{Bool, true, false, cond, not, _&&_, false≢true}
 use Prim.Native.Nat.{ℕ, zero, suc, _+_, _-_, _*_, _≤_, _<_}
 use native.Mathlib.Nat.{pos-of-ne-zero}
 use native.Mathlib.Omega.{arith}
-use borrow.Author.Tests.{eq-eqb, ne-eqb, eqb-false, leb-true, lt-leb}
+use borrow.Author.Tests.{eq-eqb, ne-eqb, eqb-true, eqb-false, leb-true, lt-leb}
 use lib.Dec.{eqb, leb}
 use lib.ListN.{length}
 use Rattle.numbers.specs.Lists.{tab, sumTo, sum, at, padded}
-use Rattle.numbers.proofs.Laws.{sum-tab, sum-same, sum-ones, sum-both, length-tab, at-tab, and-left, and-right}
+use Rattle.numbers.proofs.Laws.{sum-tab, sum-same, sum-ones, sum-both, length-tab, at-tab, by-cases, and-left, and-right}
 use Rattle.sharing.specs.Shares.{one, within, orElse, taken, share, spread, sharesOver, apartAt, sharesApart, shares, every, monthFits, Shared}
 use Rattle.sharing.specs.Underway.{Fits}
 use Rattle.sharing.proofs.Laws.{Near, sum-spread, sum-share, near-share, length-spread, at-spread, spread-same}
@@ -79,6 +79,12 @@ taken-given n w p h = outer (eqb (sumTo w n) 0) (ne-eqb (sumTo w n) 0 (omega ari
     outer : (b : Bool) → b ≡ false → cond b (cond (eqb (sumTo one n) 0) (one h) (one h)) (w h) ≡ w h
     outer true t = absurd (false≢true (sym t))
     outer false t = refl
+
+-- the sum of the weights up to an hour, as they are taken over all hours
+pub taken-every : (n : ℕ) (w : ℕ → ℕ) (h : ℕ) → sumTo (taken n every w) h ≡ cond (eqb (sumTo w n) 0) h (sumTo w h)
+taken-every n w h = by-cases (eqb (sumTo w n) 0)
+    (λ t. rw t (sum-same h (taken n every w) one (λ k l. taken-zero n w (eqb-true _ _ t) k) ∙ sum-ones h))
+    (λ f. rw f (sum-same h (taken n every w) w (λ k l. taken-given n w (pos-of-ne-zero (eqb-false _ _ f)) k)))
 
 -- weights may be given as a list or as a function
 pub taken-same : (n : ℕ) (chosen : ℕ → Bool) (w u : ℕ → ℕ) → ((h : ℕ) → h < n → w h ≡ u h) → (h : ℕ) → h < n → taken n chosen w h ≡ taken n chosen u h

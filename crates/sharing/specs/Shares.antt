@@ -82,6 +82,10 @@ monthFits v t room = leb v 744000000 && leb 1 t && leb t 744 && leb t room
 unfoldable pub weightsFit : ℕ → Bool
 weightsFit s = leb s 2232000000
 
+-- what one place of a list gets, and 0 outside the list or where the numbers do not fit
+unfoldable pub shareIn : ℕ → List ℕ → ℕ → ℕ
+shareIn v ws place = cond (monthFits v (length ws) (length ws) && weightsFit (sumTo (at ws) (length ws))) (at (shares v ws) place) 0
+
 -- WHAT A CONTRACT SAYS of a sharing into the buffer `before`: done where its numbers fit, else the buffer is as it was
 pub record Shared (fits : Bool) (hours before after : List ℕ) (r : Bool) : Type 0 where
   pub done : r ≡ fits

@@ -4,7 +4,7 @@ use mathlib.Core.Path.{_≡_}
 use mathlib.Core.List.{List}
 use mathlib.Core.Bool.{Bool}
 use lib.ListN.{length}
-use Rattle.numbers.specs.Lists.{sumTo}
+use Rattle.numbers.specs.Lists.{sumTo, at}
 use Rattle.sharing.specs.Shares.{portion, one, within, upTo, pastAt, chosenAt, otherAt}
 use Rattle.sharing.specs.declared.Progress.{Progress}
 
@@ -70,3 +70,11 @@ pub record Fits (v t size : ℕ) : Type 0 where
   pub some : 1 ≤ t
   pub hours : t ≤ 744
   pub room : t ≤ size
+
+-- a place of a list whose weights sum to s, by which v is shared, within the limits
+pub record Placed (v s : ℕ) (ws : List ℕ) (place : ℕ) : Type 0 where
+  pub inside : place < length ws
+  pub long : length ws ≤ 744
+  pub volume : v ≤ 744000000
+  pub sum : s ≡ sumTo (at ws) (length ws)
+  pub weights : s ≤ 2232000000

@@ -5,9 +5,9 @@ ghost use mathlib.Core.Bool.{cond, not, _&&_};
 ghost use Prim.Native.Nat.{ℕ, suc, _+_, _-_, _*_, _<_, _≤_};
 ghost use lib.Dec.{eqb, leb};
 ghost use lib.ListN.{length, getD};
-ghost use Rattle.numbers.specs.Lists.{sumTo, padded, Filled};
-ghost use Rattle.sharing.specs.Shares.{portion, one, ones, within, taken, share, sharesOver, apartAt, sharesApart, shares, pastAt, stretched, chosenAt, otherAt, monthFits, weightsFit, Shared};
-ghost use Rattle.sharing.specs.Underway.{started, stepped, Divides, Ready, Gains, Gained, Under, Counts, Others, Totals, Fits};
+ghost use Rattle.numbers.specs.Lists.{sumTo, at, padded, Filled};
+ghost use Rattle.sharing.specs.Shares.{portion, one, ones, within, taken, share, sharesOver, apartAt, sharesApart, shares, pastAt, stretched, chosenAt, otherAt, monthFits, weightsFit, Shared, shareIn};
+ghost use Rattle.sharing.specs.Underway.{started, stepped, Divides, Ready, Gains, Gained, Under, Counts, Others, Totals, Fits, Placed};
 use numbers::bit;
 use numbers::clear;
 use numbers::pick_wide;
@@ -349,4 +349,53 @@ pub fn share_apart(first: Kwh, second: Kwh, chosen: &[bool], hours: &mut [u32]) 
         return true;
     }
     false
+}
+
+// The sum of the first n words.
+fn sum_first(words: &[u32], n: usize) -> u64
+    requires { ⌜ n ≤ 744 ⌝ }
+    ensures { λ r. ⌜ r ≡ sumTo (at (now (words .entry))) n ⌝ }
+{
+    let mut s: u64 = 0;
+    let mut k = 0;
+    while k < n {
+        s += word_at(words, k);
+        k += 1;
+    }
+    s
+}
+
+// The same of the weights as they are taken over all places, where they sum to s.
+fn taken_first(s: u64, weights: &[u32], n: usize) -> u64
+    requires { ⌜ n ≤ 744 ⌝ }
+    ensures { λ r. ⌜ r ≡ cond (eqb s 0) n (sumTo (at (now (weights .entry))) n) ⌝ }
+{
+    pick_wide(s == 0, n as u64, sum_first(weights, n))
+}
+
+// The share of one place where the numbers fit.
+fn at_place(v: u64, s: u64, weights: &[u32], place: usize) -> u64
+    requires { ⌜ Placed v s (now weights) place ⌝ }
+    ensures { λ r. ⌜ r ≡ at (shares v (now (weights .entry))) place ⌝ }
+{
+    let whole = taken_first(s, weights, weights.len());
+    let before = taken_first(s, weights, place);
+    let after = taken_first(s, weights, place + 1);
+    portion_of(v, after, whole) - portion_of(v, before, whole)
+}
+
+// What one place of a list gets of a number shared by weights, and 0 outside the list or where the numbers do not fit.
+pub fn share_at(v: u64, weights: &[u32], place: usize) -> u64
+    ensures { λ r. ⌜ r ≡ shareIn v (now (weights .entry)) place ⌝ }
+{
+    let n = weights.len();
+    if month_fits(v, n, n) {
+        let s = sum_first(weights, n);
+        if s <= 2232000000 {
+            if place < n {
+                return at_place(v, s, weights, place);
+            }
+        }
+    }
+    0
 }
