@@ -2,7 +2,7 @@
 use mathlib.Core.Path.{_≡_, refl, ap, ap₂, _∙_}
 use mathlib.Core.Logic.{⊎-elim}
 use mathlib.Core.List.{List, [], _∷_, _++_, append-assoc}
-use mathlib.Core.Bool.{Bool, true, false, cond, _&&_}
+use mathlib.Core.Bool.{Bool, true, false, cond, _&&_, false≢true}
 use Prim.Native.Nat.{ℕ, zero, suc, _+_, _-_, _*_, _≤_, _<_}
 use native.Mathlib.Nat.{not-suc-le-zero, le-of-suc-le-suc, eq-or-lt-of-le, le-refl, le-step, le-trans, le-antisymm, sub-zero, zero-sub, suc-sub-suc}
 use native.Mathlib.Numerals.{add-one}
@@ -15,17 +15,13 @@ use lib.Seq.{drop-cons, set-at, getD-at}
 use Rattle.numbers.specs.Lists.{tab, sumTo, allTo, sum, at, zeros, padded, noneAbove, Filled}
 
 pub by-cases {ℓ} : {P : Type ℓ} (b : Bool) → (b ≡ true → P) → (b ≡ false → P) → P
-by-cases true f g = f refl
-by-cases false f g = g refl
+by-cases true t f = t refl
+by-cases false t f = f refl
 
-pub and-left : (a b : Bool) → (a && b) ≡ true → a ≡ true
-and-left true b e = refl
-and-left false b e = e
-
-pub and-right : (a b : Bool) → (a && b) ≡ true → b ≡ true
-and-right true b e = e
-and-right false true e = refl
-and-right false false e = e
+-- the parts of a test
+pub both : (a b : Bool) → a && b ≡ true → (a ≡ true) × (b ≡ true)
+both true b e = (refl, e)
+both false b e = absurd (false≢true e)
 
 pub cond-most : (b : Bool) {x y k : ℕ} → x ≤ k → y ≤ k → cond b x y ≤ k
 cond-most true p q = p
@@ -81,8 +77,8 @@ pub all-at : (f : ℕ → Bool) (n k : ℕ) → allTo f n ≡ true → k < n →
 all-at f zero k e l = absurd (not-suc-le-zero l)
 all-at f (suc n) k e l =
     ⊎-elim
-    (λ i. rw i (and-right (allTo f n) _ e))
-    (λ m. all-at f n k (and-left (allTo f n) _ e) m)
+    (λ i. rw i (both (allTo f n) (f n) e .1))
+    (λ m. all-at f n k (both (allTo f n) (f n) e .0) m)
     (eq-or-lt-of-le (le-of-suc-le-suc l))
 
 pub none-above-at : (limit : ℕ) (xs : List ℕ) → noneAbove limit xs ≡ true → (k : ℕ) → at xs k ≤ limit

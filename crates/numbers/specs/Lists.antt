@@ -2,7 +2,7 @@
 use Prim.Native.Nat.{ℕ, zero, suc, _+_, _-_}
 use mathlib.Core.Path.{_≡_}
 use mathlib.Core.List.{List, [], _∷_, _++_}
-use mathlib.Core.Bool.{Bool, true, _&&_}
+use mathlib.Core.Bool.{Bool, true, false, cond, _&&_, _||_}
 use lib.ListN.{length, getD, drop, replicate}
 use lib.Dec.{leb}
 
@@ -20,6 +20,15 @@ sumTo f (suc n) = sumTo f n + f n
 abbrev pub allTo : (ℕ → Bool) → ℕ → Bool
 allTo f zero = true
 allTo f (suc n) = allTo f n && f n
+
+-- whether f holds of one of 0, 1, .., n - 1
+abbrev pub anyTo : (ℕ → Bool) → ℕ → Bool
+anyTo f zero = false
+anyTo f (suc n) = anyTo f n || f n
+
+-- how many of 0, 1, .., n - 1 f holds of
+abbrev pub countTo : (ℕ → Bool) → ℕ → ℕ
+countTo f n = sumTo (λ k. cond (f k) 1 0) n
 
 -- the sum of a list
 abbrev pub sum : List ℕ → ℕ

@@ -9,7 +9,7 @@ use borrow.Author.Tests.{eq-eqb, ne-eqb, eqb-true, eqb-false, leb-true, lt-leb}
 use lib.Dec.{eqb, leb}
 use lib.ListN.{length}
 use Rattle.numbers.specs.Lists.{tab, sumTo, sum, at, padded}
-use Rattle.numbers.proofs.Laws.{sum-tab, sum-same, sum-ones, sum-both, length-tab, at-tab, by-cases, and-left, and-right}
+use Rattle.numbers.proofs.Laws.{sum-tab, sum-same, sum-ones, sum-both, length-tab, at-tab, by-cases, both}
 use Rattle.sharing.specs.Shares.{one, within, orElse, taken, share, spread, sharesOver, apartAt, sharesApart, shares, every, monthFits, Shared}
 use Rattle.sharing.specs.Underway.{Fits}
 use Rattle.sharing.proofs.Laws.{Near, sum-spread, sum-share, near-share, length-spread, at-spread, spread-same}
@@ -144,13 +144,14 @@ sum-apart a b chosen n some =
 pub month-fits : {v t room : ℕ} → monthFits v t room ≡ true → Fits v t room
 unfolding monthFits
 month-fits {v} {t} {room} e =
-    let abc = and-left (leb v 744000000 && leb 1 t && leb t 744) (leb t room) e in
-    let ab = and-left (leb v 744000000 && leb 1 t) (leb t 744) abc in
+    let p = both (leb v 744000000 && leb 1 t && leb t 744) (leb t room) e in
+    let q = both (leb v 744000000 && leb 1 t) (leb t 744) (p .0) in
+    let r = both (leb v 744000000) (leb 1 t) (q .0) in
     record {
-      volume = leb-true _ _ (and-left (leb v 744000000) (leb 1 t) ab);
-      some = leb-true _ _ (and-right (leb v 744000000) (leb 1 t) ab);
-      hours = leb-true _ _ (and-right (leb v 744000000 && leb 1 t) (leb t 744) abc);
-      room = leb-true _ _ (and-right (leb v 744000000 && leb 1 t && leb t 744) (leb t room) e);
+      volume = leb-true _ _ (r .0);
+      some = leb-true _ _ (r .1);
+      hours = leb-true _ _ (q .1);
+      room = leb-true _ _ (p .1);
     }
 
 pub month-unfit : (v t room : ℕ) → 744000000 < v → monthFits v t room ≡ false

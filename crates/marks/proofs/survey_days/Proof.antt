@@ -1,0 +1,65 @@
+use mathlib.Core.Path.{_≡_, refl}
+use Prim.Native.Nat.{_≤_, _-_, _/_}
+use native.Mathlib.Omega.{arith}
+use native.Mathlib.Numerals.{add-one}
+use lib.ListN.{length}
+use Rattle.marks.specs.Marks.{workingDays, crowded, unmatched, surveyWith}
+use Rattle.marks.proofs.survey_days.Statement.{statement}
+use Rattle.marks.proofs.survey_days.Tie as tie
+
+abbrev Inv-loop : tie.InvT-loop
+Inv-loop marks high peaks all crowded₀ unmatched₀ days₀ k₀ bad odd days k =
+    (all ≡ length marks / 24)
+    × (k ≤ all)
+    × (days ≤ k)
+    × (bad ≡ crowded marks k)
+    × (odd ≡ unmatched marks k)
+    × (days ≡ workingDays marks k)
+
+abbrev μ-loop : tie.MeasureT-loop
+μ-loop marks high peaks all crowded₀ unmatched₀ days₀ k₀ bad odd days k = all - k
+
+loop-holds : tie.Need-loop-holds Inv-loop μ-loop
+unfolding crowded unmatched workingDays
+loop-holds c = (refl, omega arith, omega arith, refl, refl, refl)
+
+loop-again : tie.Need-loop-again Inv-loop μ-loop
+unfolding crowded unmatched workingDays
+loop-again c =
+    let loop = c .before .before .before .before .before .before .loop in
+    let day = c .before .before .before .before .count-day .ensures in (
+      refl,
+      omega arith,
+      omega arith,
+      rw (add-one, loop .inv .3, c .before .before .before .is-crowded .ensures, day),
+      rw (add-one, loop .inv .4, c .before .before .is-unmatched .ensures, day),
+      rw (add-one, loop .inv .5, c .bit .ensures .0, c .before .is-working .ensures, day),
+    )
+
+returns : tie.Need-returns Inv-loop μ-loop
+unfolding surveyWith
+returns c =
+    let loop = c .before .loop in
+    let e : loop .k ≡ length (c .before .before .before .args .marks .now) / 24 = omega arith in
+    let bad = rw e at (loop .inv .3) in
+    let odd = rw e at (loop .inv .4) in
+    let days = rw e at (loop .inv .5) in
+    λ i. record { high = c .before .before .before .args .high; crowded = bad i; unmatched = odd i; peaks = c .before .before .before .args .peaks; days = days i }
+
+pub survey-days-spec : {M : Type 1} → statement M
+survey-days-spec =
+    tie.close
+    (tie.spec
+    Inv-loop
+    μ-loop
+    loop-holds
+    (λ c κs. omega arith)
+    (λ c κs. tt)
+    (λ c κs. tt)
+    (λ c κs. tt)
+    (λ c κs. tt)
+    (λ c. omega arith)
+    (λ c. omega arith)
+    (λ c. omega arith)
+    loop-again
+    returns)
