@@ -23,6 +23,10 @@ pub both : (a b : Bool) → a && b ≡ true → (a ≡ true) × (b ≡ true)
 both true b e = (refl, e)
 both false b e = absurd (false≢true e)
 
+pub and-false : (a : Bool) → a && false ≡ false
+and-false true = refl
+and-false false = refl
+
 pub cond-most : (b : Bool) {x y k : ℕ} → x ≤ k → y ≤ k → cond b x y ≤ k
 cond-most true p q = p
 cond-most false p q = q

@@ -88,9 +88,12 @@ unfolding spread
 at-spread v n w h l = at-tab n (share v n w) h l
 
 -- weights that agree in the hours share alike
-pub spread-same : (v n : ℕ) (w u : ℕ → ℕ) → ((h : ℕ) → h < n → w h ≡ u h) → spread v n w ≡ spread v n u
-unfolding spread
-spread-same v n w u e = tab-same n (share v n w) (share v n u) λ h l. ap₂ (λ (a b : ℕ). a - b) (up (suc h) l) (up h (le-trans (le-step (le-refl h)) l))
+pub share-same : (v n : ℕ) (w u : ℕ → ℕ) → ((h : ℕ) → h < n → w h ≡ u h) → (h : ℕ) → h < n → share v n w h ≡ share v n u h
+share-same v n w u e h l = ap₂ (λ (a b : ℕ). a - b) (up (suc h) l) (up h (le-trans (le-step (le-refl h)) l))
   where
     up : (h : ℕ) → h ≤ n → upTo v n w h ≡ upTo v n u h
     up h l = rw (sum-same h w u (λ k m. e k (le-trans m l)), sum-same n w u e)
+
+pub spread-same : (v n : ℕ) (w u : ℕ → ℕ) → ((h : ℕ) → h < n → w h ≡ u h) → spread v n w ≡ spread v n u
+unfolding spread
+spread-same v n w u e = tab-same n (share v n w) (share v n u) (share-same v n w u e)

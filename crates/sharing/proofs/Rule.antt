@@ -1,5 +1,5 @@
 -- The laws of the sharing rule on lists of every length from 1 on, over any selection of hours. Assumes nothing.
-use mathlib.Core.Path.{_≡_, refl, sym, _∙_}
+use mathlib.Core.Path.{_≡_, refl, sym, ap₂, _∙_}
 use mathlib.Core.List.{List}
 use mathlib.Core.Bool.{Bool, true, false, cond, not, _&&_, false≢true}
 use Prim.Native.Nat.{ℕ, zero, suc, _+_, _-_, _*_, _≤_, _<_}
@@ -9,10 +9,10 @@ use borrow.Author.Tests.{eq-eqb, ne-eqb, eqb-true, eqb-false, leb-true, lt-leb}
 use lib.Dec.{eqb, leb}
 use lib.ListN.{length}
 use Rattle.numbers.specs.Lists.{tab, sumTo, sum, at, padded}
-use Rattle.numbers.proofs.Laws.{sum-tab, sum-same, sum-ones, sum-both, length-tab, at-tab, by-cases, both}
+use Rattle.numbers.proofs.Laws.{sum-tab, sum-same, sum-ones, sum-both, tab-same, length-tab, at-tab, by-cases, both, and-false}
 use Rattle.sharing.specs.Shares.{one, within, orElse, taken, share, spread, sharesOver, apartAt, sharesApart, shares, every, monthFits, Shared}
 use Rattle.sharing.specs.Underway.{Fits}
-use Rattle.sharing.proofs.Laws.{Near, sum-spread, sum-share, near-share, length-spread, at-spread, spread-same}
+use Rattle.sharing.proofs.Laws.{Near, sum-spread, sum-share, near-share, length-spread, at-spread, share-same, spread-same}
 
 -- of two kinds of weights, the sum is that of the kind that counts
 or-sum : (n : ℕ) (w u : ℕ → ℕ) → sumTo (orElse n w u) n ≡ cond (eqb (sumTo w n) 0) (sumTo u n) (sumTo w n)
@@ -92,6 +92,12 @@ unfolding taken
 taken-same n chosen w u e h l =
     rw (sum-same n (within chosen w) (within chosen u) (λ k m. rw (e k m)), e h l)
 
+-- selections that agree in the hours take the same weights
+pub chosen-same : (n : ℕ) (f g : ℕ → Bool) (w : ℕ → ℕ) → ((h : ℕ) → h < n → f h ≡ g h) → (h : ℕ) → h < n → taken n f w h ≡ taken n g w h
+unfolding taken
+chosen-same n f g w e h l =
+    rw (sum-same n (within f w) (within g w) (λ k m. rw (e k m)), sum-same n (within f one) (within g one) (λ k m. rw (e k m)), e h l)
+
 pub shares-tab : (v n : ℕ) (chosen : ℕ → Bool) (w : ℕ → ℕ) → sharesOver v chosen (tab n w) ≡ spread v n (taken n chosen w)
 unfolding sharesOver
 shares-tab v n chosen w =
@@ -140,6 +146,14 @@ sum-apart a b chosen n some =
       sum-share b n (taken n (λ k. not (chosen k)) one) (taken-some n (λ k. not (chosen k)) one some),
     )
 
+pub apart-same : (a b n : ℕ) (f g : ℕ → Bool) → ((h : ℕ) → h < n → f h ≡ g h) → sharesApart a b f n ≡ sharesApart a b g n
+unfolding sharesApart apartAt
+apart-same a b n f g e =
+    tab-same n _ _ λ h l.
+    ap₂ (λ (s t : ℕ). s + t)
+    (share-same a n _ _ (chosen-same n f g one e) h l)
+    (share-same b n _ _ (chosen-same n (λ k. not (f k)) (λ k. not (g k)) one (λ k m. rw (e k m))) h l)
+
 -- numbers that pass the test of the limits are within them
 pub month-fits : {v t room : ℕ} → monthFits v t room ≡ true → Fits v t room
 unfolding monthFits
@@ -157,6 +171,10 @@ month-fits {v} {t} {room} e =
 pub month-unfit : (v t room : ℕ) → 744000000 < v → monthFits v t room ≡ false
 unfolding monthFits
 month-unfit v t room l = rw (lt-leb v 744000000 l)
+
+pub month-long : (v t room : ℕ) → 744 < t → monthFits v t room ≡ false
+unfolding monthFits
+month-long v t room l = rw (lt-leb t 744 l) (rw (and-false (leb v 744000000 && leb 1 t)))
 
 -- what a function answers where it shared, and where it refused
 pub shared-yes : {fits r : Bool} {hours before after : List ℕ}
