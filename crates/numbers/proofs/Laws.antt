@@ -1,10 +1,10 @@
 -- What holds of tables, sums and tests over an index, and of a loop that fills a list from the front. Assumes nothing.
-use mathlib.Core.Path.{_≡_, refl, ap, ap₂, _∙_}
+use mathlib.Core.Path.{_≡_, refl, sym, ap, ap₂, _∙_}
 use mathlib.Core.Logic.{⊎-elim}
 use mathlib.Core.List.{List, [], _∷_, _++_, append-assoc}
-use mathlib.Core.Bool.{Bool, true, false, cond, _&&_, false≢true}
+use mathlib.Core.Bool.{Bool, true, false, cond, _&&_, _||_, false≢true}
 use Prim.Native.Nat.{ℕ, zero, suc, _+_, _-_, _*_, _≤_, _<_}
-use native.Mathlib.Nat.{not-suc-le-zero, le-of-suc-le-suc, eq-or-lt-of-le, le-refl, le-step, le-trans, le-antisymm, sub-zero, zero-sub, suc-sub-suc}
+use native.Mathlib.Nat.{not-suc-le-zero, le-of-suc-le-suc, eq-or-lt-of-le, le-refl, le-step, le-trans, le-antisymm, sub-zero, zero-sub, suc-sub-suc, add-zero, add-suc, mul-zero, mul-suc, mul-add}
 use native.Mathlib.Numerals.{add-one}
 use native.Mathlib.Omega.{arith}
 use native.Mathlib.Decide.{le-ind, decLt}
@@ -12,7 +12,7 @@ use borrow.Author.Tests.{leb-true}
 use lib.Dec.{leb}
 use lib.ListN.{length, getD, drop, set, length-append, length-set, List·getD-append, List·getD-eq-default}
 use lib.Seq.{drop-cons, set-at, getD-at}
-use Rattle.numbers.specs.Lists.{tab, sumTo, allTo, sum, at, zeros, padded, noneAbove, Filled}
+use Rattle.numbers.specs.Lists.{tab, sumTo, allTo, anyTo, countTo, sum, at, zeros, padded, noneAbove, Filled}
 
 pub by-cases {ℓ} : {P : Type ℓ} (b : Bool) → (b ≡ true → P) → (b ≡ false → P) → P
 by-cases true t f = t refl
@@ -22,6 +22,10 @@ by-cases false t f = f refl
 pub both : (a b : Bool) → a && b ≡ true → (a ≡ true) × (b ≡ true)
 both true b e = (refl, e)
 both false b e = absurd (false≢true e)
+
+pub neither : (a b : Bool) → a || b ≡ false → (a ≡ false) × (b ≡ false)
+neither true b e = absurd (false≢true (sym e))
+neither false b e = (refl, e)
 
 pub and-false : (a : Bool) → a && false ≡ false
 and-false true = refl
@@ -72,9 +76,70 @@ pub sum-most : (f : ℕ → ℕ) (k n : ℕ) → ((h : ℕ) → f h ≤ k) → s
 sum-most f k zero e = omega arith
 sum-most f k (suc n) e = omega (arith, sum-most f k n e, e n)
 
+pub count-some : (f : ℕ → Bool) (n h : ℕ) → h < n → f h ≡ true → 0 < countTo f n
+count-some f n h l t =
+    let g : 1 ≤ cond (f h) 1 0 = rw t (omega arith) in
+    omega (arith, sum-up (λ k. cond (f k) 1 0) l)
+
+-- f holds of one index below n where it has a count
+pub record Holds (f : ℕ → Bool) (n : ℕ) : Type 0 where
+  pub index : ℕ
+  pub below : index < n
+  pub holds : f index ≡ true
+
+pub count-holds : (f : ℕ → Bool) (n : ℕ) → 0 < countTo f n → Holds f n
+count-holds f zero l = absurd (omega arith)
+count-holds f (suc n) l =
+    by-cases (f n)
+    (λ t. record { index = n; below = le-refl _; holds = t })
+    (λ g.
+    let less : 0 < countTo f n = simp (g, add-zero) at l in
+    let e = count-holds f n less in
+    record { index = e .index; below = le-step (e .below); holds = e .holds })
+
+-- no test of one of the indexes holds where the test of any does not
+pub none-at : (f : ℕ → Bool) (n k : ℕ) → anyTo f n ≡ false → k < n → f k ≡ false
+none-at f zero k e l = absurd (not-suc-le-zero l)
+none-at f (suc n) k e l =
+    ⊎-elim
+    (λ i. rw i (neither (anyTo f n) (f n) e .1))
+    (λ m. none-at f n k (neither (anyTo f n) (f n) e .0) m)
+    (eq-or-lt-of-le (le-of-suc-le-suc l))
+
 pub sum-ones : (n : ℕ) → sumTo (λ h. 1) n ≡ n
 sum-ones zero = refl
 sum-ones (suc n) = omega (arith, sum-ones n)
+
+-- nothing is added where f is 0 from n on
+pub sum-stop : (f : ℕ → ℕ) {n m : ℕ} → n ≤ m → ((h : ℕ) → n ≤ h → f h ≡ 0) → sumTo f m ≡ sumTo f n
+sum-stop f {n} {m} l e =
+    le-ind (λ (k : ℕ). sumTo f k ≡ sumTo f n) refl (λ k i j. omega (arith, e k i)) m l
+
+-- a sum in two parts, and in k parts of m
+pub sum-split : (f : ℕ → ℕ) (x y : ℕ) → sumTo f (x + y) ≡ sumTo f x + sumTo (λ h. f (x + h)) y
+sum-split f x zero = rw (add-zero, add-zero)
+sum-split f x (suc y) = rw add-suc (omega (arith, sum-split f x y))
+
+pub sum-parts : (f : ℕ → ℕ) (m k : ℕ) → sumTo f (m * k) ≡ sumTo (λ j. sumTo (λ h. f (m * j + h)) m) k
+sum-parts f m zero = rw mul-zero
+sum-parts f m (suc k) = rw (mul-suc, sum-split f (m * k) m, sum-parts f m k)
+
+-- the sum over chosen indexes of numbers of at most k each
+pub sum-weighted : (chosen : ℕ → Bool) (f : ℕ → ℕ) (k n : ℕ) → ((h : ℕ) → f h ≤ k) → sumTo (λ h. cond (chosen h) (f h) 0) n ≤ k * countTo chosen n
+sum-weighted chosen f k zero e = omega arith
+sum-weighted chosen f k (suc n) e =
+    let s = sum-weighted chosen f k n e in
+    by-cases (chosen n) (λ t. rw t (omega (arith, e n, mul-add k (countTo chosen n) 1))) (λ g. rw (g, add-zero, add-zero) s)
+
+-- the same of indexes below n
+pub sum-most-below : (f : ℕ → ℕ) (k n : ℕ) → ((h : ℕ) → h < n → f h ≤ k) → sumTo f n ≤ k * n
+sum-most-below f k zero e = omega arith
+sum-most-below f k (suc n) e = omega (arith, sum-most-below f k n (λ h l. e h (le-step l)), e n (le-refl _))
+
+-- a count is 0 where f holds of none, and above 0 where it holds of one
+pub count-none : (f : ℕ → Bool) (n : ℕ) → countTo f n ≡ 0 → (h : ℕ) → h < n → f h ≡ false
+count-none f n e h l =
+    by-cases (f h) (λ t. absurd (omega (arith, count-some f n h l t))) (λ g. g)
 
 -- a test of all indexes below n is a test of each
 pub all-at : (f : ℕ → Bool) (n k : ℕ) → allTo f n ≡ true → k < n → f k ≡ true

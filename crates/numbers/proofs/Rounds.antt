@@ -2,10 +2,11 @@
 use Prim.Native.Nat.{ℕ, _+_, _*_, _/_, _%_, _≤_, _<_}
 use mathlib.Core.Path.{_≡_, refl}
 use mathlib.Core.Bool.{Bool, true, false, cond}
-use native.Mathlib.Nat.{div-add-mod', mod-lt, add-mul, le-div-iff-mul-le, le-trans, div-mul-le-self}
+use native.Mathlib.Nat.{div-add-mod', mod-lt, add-mul, mul-le-mul-right}
 use native.Mathlib.Omega.{arith}
+use native.Mathlib.Decide.{decLt}
 use lib.Dec.{eqb, leb}
-use borrow.Author.Tests.{ne-eqb, leb-true, leb-false}
+use borrow.Author.Tests.{eq-eqb, ne-eqb, leb-true, leb-false}
 use Rattle.numbers.specs.Rounding.{halfUp}
 
 -- twice x lies from (2 q - 1) d on, and below (2 q + 1) d
@@ -30,6 +31,19 @@ half-up-nearest x d p = simp (ne-eqb d 0 (omega arith)) (go (leb d (2 * (x % d))
           low = omega (arith, div-add-mod' x d, add-mul (x / d) 0 d);
           high = omega (arith, div-add-mod' x d, add-mul (x / d) 0 d);
         }
+
+-- no quotient above k where x is at most k times d
+pub half-up-most : (x d k : ℕ) → x ≤ k * d → halfUp x d ≤ k
+unfolding halfUp
+half-up-most x d k l =
+    elim (decLt 0 d) [
+      | yes p ↦
+          elim (decLt k (halfUp x d)) [
+            | yes g ↦ absurd (omega (arith, half-up-nearest x d p .low, mul-le-mul-right d g, add-mul k 1 d))
+            | no f ↦ omega arith
+          ]
+      | no f ↦ rw (eq-eqb d 0 (omega arith)) (omega arith)
+    ]
 
 -- a half counts as one more
 pub worked : (halfUp 7 2 ≡ 4) × (halfUp 6 4 ≡ 2) × (halfUp 5 4 ≡ 1) × (halfUp 0 3 ≡ 0) × (halfUp 5 0 ≡ 0)

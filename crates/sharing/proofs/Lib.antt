@@ -1,4 +1,5 @@
 pub mod Laws
 pub mod Rule
+pub mod Even
 pub mod Under
 pub mod Place
