@@ -2,4 +2,4 @@ pub mod Laws
 pub mod Rule
 pub mod Even
 pub mod Under
-pub mod Place
+pub mod Placing

@@ -11,7 +11,7 @@ use Rattle.numbers.specs.Lists.{tab, sumTo, zeros, padded, Filled}
 use Rattle.numbers.proofs.Laws.{cond-most, sum-up, sum-most, filled-more, filled-padded}
 use Rattle.sharing.specs.Shares.{one, within, taken, share, spread, sharesOver, apartAt, sharesApart, chosenAt}
 use Rattle.sharing.specs.Underway.{started, stepped, running, Divides, Ready, Gains, Gained, Under, Counts, Others}
-use Rattle.sharing.specs.declared.Progress.{Progress}
+use Rattle.sharing.specs.declared.progress.Progress.{Progress}
 use native.Mathlib.Omega.{arith}
 use Rattle.sharing.proofs.Rule.{taken-sum, taken-some, shares-tab, all-hours}
 use Rattle.sharing.proofs.Laws.{portion-none, portion-most, upTo-up}

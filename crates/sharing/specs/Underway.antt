@@ -6,7 +6,7 @@ use mathlib.Core.Bool.{Bool}
 use lib.ListN.{length}
 use Rattle.numbers.specs.Lists.{sumTo, at}
 use Rattle.sharing.specs.Shares.{portion, one, within, upTo, pastAt, chosenAt, otherAt}
-use Rattle.sharing.specs.declared.Progress.{Progress}
+use Rattle.sharing.specs.declared.progress.Progress.{Progress}
 
 -- before the first hour, of a volume v by weights that sum to s
 abbrev pub started : ℕ → ℕ → Progress
