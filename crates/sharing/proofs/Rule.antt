@@ -10,7 +10,7 @@ use lib.Dec.{eqb, leb}
 use lib.ListN.{length}
 use Rattle.numbers.specs.Lists.{tab, sumTo, sum, at, padded}
 use Rattle.numbers.proofs.Laws.{sum-tab, sum-same, sum-ones, sum-both, tab-same, length-tab, at-tab, by-cases, both, and-false}
-use Rattle.sharing.specs.Shares.{one, within, orElse, taken, share, spread, sharesOver, apartAt, sharesApart, shares, every, monthFits, Shared}
+use Rattle.sharing.specs.Shares.{one, within, orElse, taken, share, spread, sharesOver, apartAt, sharesApart, shares, every, monthFits, rowFits, Shared}
 use Rattle.sharing.specs.Underway.{Fits}
 use Rattle.sharing.proofs.Laws.{Near, sum-spread, sum-share, near-share, length-spread, at-spread, share-same, spread-same}
 
@@ -176,10 +176,26 @@ pub month-long : (v t room : ℕ) → 744 < t → monthFits v t room ≡ false
 unfolding monthFits
 month-long v t room l = rw (lt-leb t 744 l) (rw (and-false (leb v 744000000 && leb 1 t)))
 
+-- a part of the store that passes the test lies in it
+pub record RowFits (words r t : ℕ) : Type 0 where
+  pub size : words ≡ 10416
+  pub row : r ≤ 13
+  pub hours : t ≤ 744
+
+pub row-fits : {size r t : ℕ} → rowFits size r t ≡ true → RowFits size r t
+unfolding rowFits
+row-fits {size} {r} {t} e =
+    let p = both (eqb size 10416 && leb r 13) (leb t 744) e in
+    let q = both (eqb size 10416) (leb r 13) (p .0) in
+    record { size = eqb-true _ _ (q .0); row = leb-true _ _ (q .1); hours = leb-true _ _ (p .1) }
+
 -- what a function answers where it shared, and where it refused
 pub shared-yes : {fits r : Bool} {hours before after : List ℕ}
     → fits ≡ true → r ≡ true → after ≡ padded (length before) hours → Shared fits hours before after r
 shared-yes e f g = record { done = rw (e, f); left = rw e g }
+
+pub shared-and : {first fits r : Bool} {hours before after : List ℕ} → first ≡ true → Shared fits hours before after r → Shared (first && fits) hours before after r
+shared-and e shared = rw e shared
 
 pub shared-no : {fits r : Bool} {hours before : List ℕ} → fits ≡ false → r ≡ false → Shared fits hours before before r
 shared-no e f = record { done = rw (e, f); left = rw e }

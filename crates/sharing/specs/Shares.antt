@@ -3,7 +3,7 @@ use Prim.Native.Nat.{ℕ, suc, _+_, _-_, _*_, _/_}
 use mathlib.Core.Path.{_≡_}
 use mathlib.Core.List.{List}
 use mathlib.Core.Bool.{Bool, true, false, cond, not, _&&_}
-use lib.ListN.{length, getD}
+use lib.ListN.{length, getD, take, drop}
 use lib.Dec.{eqb, ltb, leb}
 use Rattle.numbers.specs.Lists.{tab, sumTo, at, padded}
 
@@ -66,6 +66,14 @@ pastAt past h = cond (ltb h (length past)) (at past h) (at past (h - 168))
 -- the past of a month of t hours
 unfoldable pub stretched : List ℕ → ℕ → List ℕ
 stretched past t = tab t (pastAt past)
+
+-- the first t hours of row r, as the part of the store that starts at 744 × its row
+abbrev pub rowPart : List ℕ → ℕ → ℕ → List ℕ
+rowPart store r t = take t (drop (744 * r) store)
+
+-- a store of 14 rows of 744 words has that part
+unfoldable pub rowFits : ℕ → ℕ → ℕ → Bool
+rowFits size r t = eqb size 10416 && leb r 13 && leb t 744
 
 -- a selection of hours as a list
 abbrev pub chosenAt : List Bool → ℕ → Bool

@@ -5,7 +5,7 @@ ghost use mathlib.Core.Bool.{_&&_};
 ghost use Prim.Native.Nat.{_+_, _≤_};
 ghost use lib.ListN.{length};
 ghost use Rattle.numbers.specs.Lists.{sumTo, padded};
-ghost use Rattle.sharing.specs.Shares.{ones, within, sharesOver, sharesApart, pastAt, stretched, chosenAt, monthFits, weightsFit, Shared, shareIn};
+ghost use Rattle.sharing.specs.Shares.{ones, within, sharesOver, sharesApart, pastAt, stretched, rowPart, rowFits, chosenAt, monthFits, weightsFit, Shared, shareIn};
 ghost use Rattle.sharing.specs.Underway.{Fits};
 mod fill;
 mod place;
@@ -75,6 +75,32 @@ pub fn share_by_past(volume: Kwh, past: &[u32], chosen: &[bool], hours: &mut [u3
             return true;
         }
         return false;
+    }
+    false
+}
+
+// Whether the store has the first t hours of a row.
+fn row_fits(size: usize, row: usize, t: usize) -> bool
+    ensures { λ r. ⌜ r ≡ rowFits size row t ⌝ }
+{
+    (size == 10416) & (row <= 13) & (t <= 744)
+}
+
+// The same where the past is the first t hours of a row of the store.
+pub fn share_by_row(volume: Kwh, store: &[u32], row: usize, t: usize, chosen: &[bool], hours: &mut [u32]) -> bool
+    ensures { λ r. ⌜
+        Shared
+        (rowFits (length (now (store .entry))) row t
+        && (monthFits (volume .0) (length (now (chosen .entry))) (length (now (hours .entry)))
+        && weightsFit (sumTo (within (chosenAt (now (chosen .entry))) (pastAt (rowPart (now (store .entry)) row t))) (length (now (chosen .entry))))))
+        (sharesOver (volume .0) (chosenAt (now (chosen .entry))) (stretched (rowPart (now (store .entry)) row t) (length (now (chosen .entry)))))
+        (now (hours .entry)) (now (hours .exit)) r
+        ⌝ }
+{
+    if row_fits(store.len(), row, t) {
+        let a = 744 * row;
+        let e = a + t;
+        return share_by_past(volume, &store[a..e], chosen, hours);
     }
     false
 }

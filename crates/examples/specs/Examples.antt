@@ -1,0 +1,44 @@
+-- The common table of examples (document 01, 'Examples to be shown in a common table'), in its order.
+use Prim.Native.Nat.{ℕ}
+use mathlib.Core.Path.{_≡_}
+use mathlib.Core.List.{List, [], _∷_}
+use Rattle.calendar.specs.declared.Date.{Date}
+use Rattle.calendar.specs.Calendar.{monthDays}
+use Rattle.sharing.specs.Shares.{shares}
+use Rattle.power.specs.declared.Cable.{Cable}
+use Rattle.power.specs.Power.{formula, sharedPower}
+use Rattle.marks.specs.Marks.{capacityOf}
+use Rattle.marks.specs.Peak.{peakRule}
+
+abbrev pub february : ℕ → Date
+february y = record { year = y; month = 2 }
+
+-- I amperes, U volts, c, phases
+abbrev pub cable : ℕ → ℕ → ℕ → ℕ → Cable
+cable i u c f = record { amperes = i; volts = u; cosine = c; phases = f }
+
+-- six hours, peaks at 1 and 3
+abbrev pub six : List ℕ
+six = 0 ∷ 1 ∷ 0 ∷ 3 ∷ 0 ∷ 2 ∷ []
+
+pub record Examples : Type 0 where
+  -- a) February: 2023 28 days, 2024 29, 2100 28, 2400 29
+  pub a : (monthDays (february 2023) ≡ 28) × (monthDays (february 2024) ≡ 29) × (monthDays (february 2100) ≡ 28) × (monthDays (february 2400) ≡ 29)
+  -- b) 10 by 1, 1, 1: 3, 3, 4
+  pub b : shares 10 (1 ∷ 1 ∷ 1 ∷ []) ≡ 3 ∷ 3 ∷ 4 ∷ []
+  -- c) 5 by 0, 0: 2, 3
+  pub c : shares 5 (0 ∷ 0 ∷ []) ≡ 2 ∷ 3 ∷ []
+  -- d) 7 by 3, 0, 1: 5, 0, 2
+  pub d : shares 7 (3 ∷ 0 ∷ 1 ∷ []) ≡ 5 ∷ 0 ∷ 2 ∷ []
+  -- e) 100 A, 230 V, c 0, 720 h: 29,808 with three phases, 9,936 with one
+  pub e : (formula (cable 100 230 0 3) 720 ≡ 29808) × (formula (cable 100 230 0 1) 720 ≡ 9936)
+  -- f) 1 A, 25 V, c 125, one phase, 720 h: 2
+  pub f : formula (cable 1 25 125 1) 720 ≡ 2
+  -- g) 10 kW by 1, 1, 1, place 2: 4
+  pub g : sharedPower 10 (1 ∷ 1 ∷ 1 ∷ []) 2 ≡ 4
+  -- h) six hours, peaks at 1 and 3, P 3: V 10 gives 1, 3, 1, 3, 1, 1; V 5 gives 0, 2, 0, 3, 0, 0
+  pub h : (peakRule 10 3 six ≡ 1 ∷ 3 ∷ 1 ∷ 3 ∷ 1 ∷ 1 ∷ []) × (peakRule 5 3 six ≡ 0 ∷ 2 ∷ 0 ∷ 3 ∷ 0 ∷ 0 ∷ [])
+  -- i) the same, P 0, V 4: 1, 0, 1, 0, 1, 1
+  pub i : peakRule 4 0 six ≡ 1 ∷ 0 ∷ 1 ∷ 0 ∷ 1 ∷ 1 ∷ []
+  -- j) C 7, d 2: 4
+  pub j : capacityOf 7 2 ≡ 4
