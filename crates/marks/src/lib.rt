@@ -12,9 +12,9 @@ use numbers::half_up;
 use numbers::least;
 use numbers::word_at;
 use sharing::share_apart;
-use units::energy;
 use units::Kw;
 use units::Kwh;
+use units::energy;
 
 // The peak hours and the capacity hours of a day.
 pub struct Day {

@@ -7,10 +7,12 @@ ghost use lib.ListN.{length};
 ghost use Rattle.numbers.specs.Lists.{sumTo, padded};
 ghost use Rattle.sharing.specs.Shares.{ones, within, sharesOver, sharesApart, pastAt, stretched, rowPart, rowFits, chosenAt, monthFits, weightsFit, Shared, shareIn};
 ghost use Rattle.sharing.specs.Underway.{Fits};
+
 mod fill;
 mod place;
 mod progress;
 mod weights;
+
 use fill::fill_apart;
 use fill::fill_by_past;
 use fill::fill_evenly;
@@ -87,7 +89,14 @@ fn row_fits(size: usize, row: usize, t: usize) -> bool
 }
 
 // The same where the past is the first t hours of a row of the store.
-pub fn share_by_row(volume: Kwh, store: &[u32], row: usize, t: usize, chosen: &[bool], hours: &mut [u32]) -> bool
+pub fn share_by_row(
+    volume: Kwh,
+    store: &[u32],
+    row: usize,
+    t: usize,
+    chosen: &[bool],
+    hours: &mut [u32],
+) -> bool
     ensures { λ r. ⌜
         Shared
         (rowFits (length (now (store .entry))) row t
@@ -147,7 +156,14 @@ fn apart(a: u64, b: u64, chosen: &[bool], hours: &mut [u32])
     let k = count(chosen);
     let m = n - k;
     clear(hours);
-    fill_apart(k, m, start(a, whole_of(k, k, n)), start(b, whole_of(m, m, n)), chosen, hours)
+    fill_apart(
+        k,
+        m,
+        start(a, whole_of(k, k, n)),
+        start(b, whole_of(m, m, n)),
+        chosen,
+        hours,
+    )
 }
 
 // The first volume shared evenly over the chosen hours and the second evenly over the others, and 0 in the rest of the

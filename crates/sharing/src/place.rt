@@ -6,9 +6,9 @@ ghost use lib.Dec.{eqb};
 ghost use Rattle.numbers.specs.Lists.{sumTo, at};
 ghost use Rattle.sharing.specs.Shares.{shares};
 ghost use Rattle.sharing.specs.Underway.{Placed};
+use super::progress::portion_of;
 use numbers::pick_wide;
 use numbers::word_at;
-use super::progress::portion_of;
 
 // The sum of the first n words.
 pub fn sum_first(words: &[u32], n: usize) -> u64
