@@ -37,7 +37,7 @@ pub extern "C" fn bench_peak_rule(volume: u64, power: u32, marks: &[u8], hours: 
         (now (hours .entry)) (now (hours .exit)) r
         ⌝ }
 {
-    marks::peak_rule(Kwh(volume), Kw(power), marks, hours)
+    marks::peak::peak_rule(Kwh(volume), Kw(power), marks, hours)
 }
 
 #[no_mangle]

@@ -4,8 +4,8 @@ use native.Mathlib.Nat.{sub-zero}
 use borrow.Author.Needs.{needs}
 use Rattle.sharing.proofs.Rule.{month-long, shared-no}
 use Rattle.marks.proofs.Flag.{part-of, peak-shared}
-use Rattle.marks.proofs.peak_rule.Statement.{statement}
-use Rattle.marks.proofs.peak_rule.Tie as tie
+use Rattle.marks.proofs.peak.peak_rule.Statement.{statement}
+use Rattle.marks.proofs.peak.peak_rule.Tie as tie
 
 returns : tie.Need-returns
 returns c =

@@ -5,8 +5,8 @@ use native.Mathlib.Numerals.{add-one}
 use lib.ListN.{length}
 use Rattle.numbers.specs.Lists.{countTo}
 use Rattle.marks.specs.Marks.{peakAt, peakCount}
-use Rattle.marks.proofs.count_peaks.Statement.{statement}
-use Rattle.marks.proofs.count_peaks.Tie as tie
+use Rattle.marks.proofs.days.count_peaks.Statement.{statement}
+use Rattle.marks.proofs.days.count_peaks.Tie as tie
 
 abbrev Inv-loop : tie.InvT-loop
 Inv-loop marks n₀ h₀ n h = (h ≤ length marks) × (n ≤ h) × (n ≡ countTo (peakAt marks) h)

@@ -5,8 +5,8 @@ use native.Mathlib.Numerals.{add-one}
 use lib.Dec.{leb}
 use lib.ListN.{length}
 use Rattle.numbers.specs.Lists.{allTo, at, noneAbove}
-use Rattle.marks.proofs.none_high.Statement.{statement}
-use Rattle.marks.proofs.none_high.Tie as tie
+use Rattle.marks.proofs.days.none_high.Statement.{statement}
+use Rattle.marks.proofs.days.none_high.Tie as tie
 
 abbrev Inv-loop : tie.InvT-loop
 Inv-loop marks ok₀ h₀ ok h = (h ≤ length marks) × (ok ≡ allTo (λ k. leb (at marks k) 3) h)

@@ -4,8 +4,8 @@ use native.Mathlib.Omega.{arith}
 use native.Mathlib.Numerals.{add-one}
 use lib.ListN.{length}
 use Rattle.marks.specs.Marks.{workingDays, crowded, unmatched, surveyWith}
-use Rattle.marks.proofs.survey_days.Statement.{statement}
-use Rattle.marks.proofs.survey_days.Tie as tie
+use Rattle.marks.proofs.days.survey_days.Statement.{statement}
+use Rattle.marks.proofs.days.survey_days.Tie as tie
 
 abbrev Inv-loop : tie.InvT-loop
 Inv-loop marks high peaks all crowded₀ unmatched₀ days₀ k₀ bad odd days k =

@@ -4,8 +4,8 @@ use native.Mathlib.Omega.{arith}
 use native.Mathlib.Numerals.{add-one}
 use Rattle.numbers.specs.Lists.{countTo}
 use Rattle.marks.specs.Marks.{peakAt, capacityAt}
-use Rattle.marks.proofs.count_day.Statement.{statement}
-use Rattle.marks.proofs.count_day.Tie as tie
+use Rattle.marks.proofs.days.count_day.Statement.{statement}
+use Rattle.marks.proofs.days.count_day.Tie as tie
 
 abbrev Inv-loop : tie.InvT-loop
 Inv-loop marks k peaks₀ capacities₀ h₀ peaks capacities h =

@@ -6,8 +6,8 @@ use borrow.Author.Needs.{needs}
 use lib.ListN.{length, length-replicate, length-set}
 use Rattle.marks.specs.Peak.{Flags}
 use Rattle.marks.proofs.Flag.{flags-none, flags-more}
-use Rattle.marks.proofs.flag_peaks.Statement.{statement}
-use Rattle.marks.proofs.flag_peaks.Tie as tie
+use Rattle.marks.proofs.peak.flag_peaks.Statement.{statement}
+use Rattle.marks.proofs.peak.flag_peaks.Tie as tie
 
 abbrev Inv-loop : tie.InvT-loop
 Inv-loop marks flags₀ h₀ flags h = (h ≤ length marks) × Flags marks flags h

@@ -1,0 +1,46 @@
+// The peak rule.
+ghost use Prim.Native.Nat.{_≤_};
+ghost use lib.ListN.{length};
+ghost use Rattle.sharing.specs.Shares.{monthFits, Shared};
+ghost use Rattle.marks.specs.Peak.{peakRule, Flags};
+use super::days::count_peaks;
+use super::days::is_peak;
+use numbers::least;
+use sharing::share_apart;
+use units::Kw;
+use units::Kwh;
+use units::energy;
+
+// The peak hours of up to 744 marks as flags.
+fn flag_peaks(marks: &[u8]) -> [bool; 744]
+    requires { ⌜ length (now marks) ≤ 744 ⌝ }
+    ensures { λ r. ⌜ Flags (now (marks .entry)) r (length (now (marks .entry))) ⌝ }
+{
+    let mut flags = [false; 744];
+    let mut h = 0;
+    while h < marks.len() {
+        flags[h] = is_peak(marks[h]);
+        h += 1;
+    }
+    flags
+}
+
+// The volume shared by the peak rule over the hours of the marks, and 0 in the rest of the buffer. Where the numbers do
+// not fit the answer is false, and the buffer is as it was.
+pub fn peak_rule(volume: Kwh, power: Kw, marks: &[u8], hours: &mut [u32]) -> bool
+    ensures { λ r. ⌜
+        Shared (monthFits (volume .0) (length (now (marks .entry))) (length (now (hours .entry))))
+        (peakRule (volume .0) (power .0) (now (marks .entry)))
+        (now (hours .entry)) (now (hours .exit)) r
+        ⌝ }
+{
+    let t = marks.len();
+    if t <= 744 {
+        let n = count_peaks(marks) as u32;
+        let flags = flag_peaks(marks);
+        let most = energy(n, power);
+        let a = least(volume.0, most.0);
+        return share_apart(Kwh(a), Kwh(volume.0 - a), &flags[0..t], hours);
+    }
+    false
+}
