@@ -20,10 +20,10 @@ pub fn pick(b: bool, x: u32, y: u32) -> u32
 }
 
 // The same for wide numbers.
-pub fn pick_wide(b: bool, x: u64, y: u64) -> u64
-    ensures { λ r. ⌜ r ≡ cond b x y ⌝ }
+pub fn pick_wide(b: bool, v: u64, w: u64) -> u64
+    ensures { λ r. ⌜ r ≡ cond b v w ⌝ }
 {
-    if b { x } else { y }
+    if b { v } else { w }
 }
 
 // 1 where b holds, else 0.
@@ -70,10 +70,10 @@ pub fn none_above(words: &[u32], limit: u32) -> bool
     ensures { λ r. ⌜ r ≡ noneAbove limit (now (words .entry)) ⌝ }
 {
     let mut ok = true;
-    let mut i = 0;
-    while i < words.len() {
-        ok = ok & (words[i] <= limit);
-        i += 1;
+    let mut k = 0;
+    while k < words.len() {
+        ok = ok & (words[k] <= limit);
+        k += 1;
     }
     ok
 }

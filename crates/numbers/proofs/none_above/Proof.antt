@@ -9,14 +9,14 @@ use Rattle.numbers.proofs.none_above.Statement.{statement}
 use Rattle.numbers.proofs.none_above.Tie as tie
 
 abbrev Inv-loop : tie.InvT-loop
-Inv-loop words limit ok₀ i₀ ok i = (i ≤ length words) × (ok ≡ allTo (λ k. leb (at words k) limit) i)
+Inv-loop words limit ok₀ k₀ ok k = (k ≤ length words) × (ok ≡ allTo (λ j. leb (at words j) limit) k)
 
 abbrev μ-loop : tie.MeasureT-loop
-μ-loop words limit ok₀ i₀ ok i = length words - i
+μ-loop words limit ok₀ k₀ ok k = length words - k
 
 returns : tie.Need-returns Inv-loop μ-loop
 unfolding noneAbove
-returns c = let e : c .before .loop .i ≡ length (c .before .before .args .words .now) = omega arith in rw e at (c .before .loop .inv .1)
+returns c = let e : c .before .loop .k ≡ length (c .before .before .args .words .now) = omega arith in rw e at (c .before .loop .inv .1)
 
 pub none-above-spec : {M : Type 1} → statement M
 none-above-spec =
