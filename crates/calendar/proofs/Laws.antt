@@ -61,6 +61,13 @@ pub outside : (d : Date) → isMonth d ≡ false → monthDays d ≡ 0
 unfolding monthDays
 outside d h = rw h
 
+-- so a year after the last, or a month after December, gives no days
+pub after-last : (d : Date) → 2999 < d .year → monthDays d ≡ 0
+after-last d l = by-cases (isMonth d) (λ t. absurd (omega (arith, limits d t))) (outside d)
+
+pub after-december : (d : Date) → 12 < d .month → monthDays d ≡ 0
+after-december d l = by-cases (isMonth d) (λ t. absurd (omega (arith, limits d t))) (outside d)
+
 -- a month has at least 28 days
 pub days-low : (d : Date) → isMonth d ≡ true → 28 ≤ monthDays d
 days-low d h = days d h .0

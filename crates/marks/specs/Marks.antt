@@ -7,7 +7,7 @@ use lib.Dec.{eqb, ltb}
 use Rattle.numbers.specs.Lists.{sumTo, anyTo, countTo, at, noneAbove}
 use Rattle.numbers.specs.Rounding.{halfUp}
 use Rattle.marks.specs.declared.days.Day.{Day}
-use Rattle.marks.specs.declared.days.Survey.{Survey}
+use Rattle.marks.specs.declared.Survey.{Survey}
 
 abbrev pub isPeak : ℕ → Bool
 isPeak m = eqb m 1 || eqb m 3

@@ -4,21 +4,13 @@ ghost use Prim.Native.Nat.{_+_, _*_, _≤_};
 ghost use lib.ListN.{length};
 ghost use Rattle.numbers.specs.Lists.{noneAbove};
 ghost use Rattle.marks.specs.Marks.{isPeak, isCapacity, peakCount, dayOf, isWorking, isCrowded, isUnmatched, surveyWith};
+use super::Survey;
 use numbers::bit;
 
 // The peak hours and the capacity hours of a day.
 pub struct Day {
     pub peaks: u64,
     pub capacities: u64,
-}
-
-// What the marks of a month say: whether 41, 42 and 43 apply, n and d.
-pub struct Survey {
-    pub high: bool,
-    pub crowded: bool,
-    pub unmatched: bool,
-    pub peaks: u64,
-    pub days: u64,
 }
 
 pub fn is_peak(mark: u8) -> bool

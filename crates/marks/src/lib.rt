@@ -5,10 +5,9 @@ ghost use Prim.Native.Nat.{_≤_};
 ghost use Rattle.numbers.specs.Lists.{at};
 ghost use Rattle.marks.specs.Marks.{capacityAt, surveyOf, capacitySum, capacityIn};
 
-pub mod days;
+mod days;
 pub mod peak;
 
-use days::Survey;
 use days::count_peaks;
 use days::is_capacity;
 use days::none_high;
@@ -18,6 +17,15 @@ use numbers::least;
 use numbers::word_at;
 use units::Kw;
 use units::Kwh;
+
+// What the marks of a month say: whether 41, 42 and 43 apply, n and d.
+pub struct Survey {
+    pub high: bool,
+    pub crowded: bool,
+    pub unmatched: bool,
+    pub peaks: u64,
+    pub days: u64,
+}
 
 // Which of 41, 42 and 43 apply, n and d.
 pub fn survey_marks(marks: &[u8]) -> Survey

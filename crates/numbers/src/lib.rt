@@ -82,5 +82,5 @@ pub fn none_above(words: &[u32], limit: u32) -> bool
 pub fn word_at(words: &[u32], k: usize) -> u64
     ensures { λ r. ⌜ (r ≡ at (now (words .entry)) k) × (r ≤ 4294967295) ⌝ }
 {
-    if k < words.len() { wide(words[k]) } else { 0 }
+    if k < words.len() { words[k] as u64 } else { 0 }
 }

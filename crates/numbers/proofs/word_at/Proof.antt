@@ -1,4 +1,4 @@
-use mathlib.Core.Path.{sym}
+use mathlib.Core.Path.{refl, sym}
 use native.Mathlib.Omega.{arith}
 use borrow.Author.Needs.{needs}
 use lib.ListN.{List·getD-eq-default}
@@ -11,6 +11,6 @@ word-at-spec =
     (tie.spec
     (λ c. search needs)
     (λ c. search needs)
-    (λ c κs. tt)
-    (λ c. (c .wide .ensures, omega (arith, c .wide .ensures, c .before .shared-slice-known2 .given (c .before .before .before .before .args .k))))
-    (λ c. (sym (List·getD-eq-default (c .before .before .args .words .now) 0 (c .if1 .left)), omega arith)))
+    (λ c. omega (arith, c .shared-slice-known .given (c .before .before .args .k)))
+    (λ c. (refl, omega (arith, c .shared-slice-known .given (c .before .before .args .k))))
+    (λ c. (sym (List·getD-eq-default (c .before .args .words .now) 0 (c .if1 .left)), omega arith)))
