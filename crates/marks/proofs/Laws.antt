@@ -13,7 +13,7 @@ use Rattle.numbers.specs.Lists.{sumTo, countTo, at}
 use Rattle.numbers.specs.Rounding.{halfUp}
 use Rattle.numbers.proofs.Laws.{by-cases, neither, sum-stop, sum-parts, sum-same, sum-most-below, sum-weighted, count-some, count-holds, Holds, none-at}
 use Rattle.numbers.proofs.Rounds.{half-up-most}
-use Rattle.marks.specs.Marks.{peakAt, capacityAt, peakCount, dayOf, isWorking, isCrowded, isUnmatched, workingDays, crowded, unmatched, capacitySum, capacityOf, capacityIn}
+use Rattle.marks.specs.Marks.{peakAt, capacityAt, peakCount, dayOf, dayPeaks, isWorking, isCrowded, isUnmatched, workingDays, crowded, unmatched, capacitySum, capacityOf, capacityIn}
 
 -- a day is a working day just where it has a capacity hour
 pub working-has : (marks : List ℕ) (k : ℕ) → isWorking (dayOf marks k) ≡ true → Holds (λ h. capacityAt marks (24 * k + h)) 24
@@ -43,11 +43,16 @@ days-capacities marks k e =
     sum-same k _ (λ j. dayOf marks j .capacities) (λ j l. sym (matched marks j (none-at (λ i. isUnmatched (dayOf marks i)) k j e l)))
     ∙ sym (sum-parts (λ h. cond (capacityAt marks h) 1 0) 24 k)
 
+-- LAW: n by days is n
+pub day-peaks : (marks : List ℕ) (k : ℕ) → length marks ≡ 24 * k → dayPeaks marks k ≡ peakCount marks
+unfolding dayPeaks peakCount
+day-peaks marks k e = rw (e, sum-parts (λ h. cond (peakAt marks h) 1 0) 24 k)
+
 -- LAW: where 42 passes, at most 16 hours of each day are peak hours
 pub peaks-most : (marks : List ℕ) (k : ℕ) → length marks ≡ 24 * k → crowded marks k ≡ false → peakCount marks ≤ 16 * k
-unfolding peakCount crowded
+unfolding dayPeaks crowded
 peaks-most marks k e f =
-    rw (e, sum-parts (λ h. cond (peakAt marks h) 1 0) 24 k)
+    rw (← day-peaks marks k e)
     (sum-most-below (λ j. dayOf marks j .peaks) 16 k
     (λ j l. ltb-false 16 (dayOf marks j .peaks) (none-at (λ i. isCrowded (dayOf marks i)) k j f l)))
 

@@ -35,6 +35,10 @@ dayOf marks k =
 abbrev pub isWorking : Day → Bool
 isWorking day = ltb 0 (day .capacities)
 
+-- n of the first k days
+unfoldable pub dayPeaks : List ℕ → ℕ → ℕ
+dayPeaks marks k = sumTo (λ j. dayOf marks j .peaks) k
+
 -- 42: over 16 peak hours in a day
 abbrev pub isCrowded : Day → Bool
 isCrowded day = ltb 16 (day .peaks)
@@ -59,18 +63,18 @@ unfoldable pub high : List ℕ → Bool
 high marks = not (noneAbove 3 marks)
 
 -- which of 41, 42 and 43 apply, n and d; a month's marks are whole days
-unfoldable pub surveyWith : List ℕ → Bool → ℕ → Survey
-surveyWith marks high n =
+unfoldable pub surveyWith : List ℕ → Bool → Survey
+surveyWith marks high =
     record {
       high = high;
       crowded = crowded marks (length marks / 24);
       unmatched = unmatched marks (length marks / 24);
-      peaks = n;
+      peaks = dayPeaks marks (length marks / 24);
       days = workingDays marks (length marks / 24);
     }
 
 unfoldable pub surveyOf : List ℕ → Survey
-surveyOf marks = surveyWith marks (high marks) (peakCount marks)
+surveyOf marks = surveyWith marks (high marks)
 
 -- C, the sum of the volumes in the capacity hours, over a buffer of 744 words. Past the marks' end there is no capacity hour
 unfoldable pub capacitySum : List ℕ → List ℕ → ℕ

@@ -3,7 +3,7 @@ ghost use mathlib.Core.Path.{_≡_};
 ghost use Prim.Native.Nat.{_+_, _*_, _≤_};
 ghost use lib.ListN.{length};
 ghost use Rattle.numbers.specs.Lists.{noneAbove};
-ghost use Rattle.marks.specs.Marks.{isPeak, isCapacity, peakCount, dayOf, isWorking, isCrowded, isUnmatched, surveyWith};
+ghost use Rattle.marks.specs.Marks.{isPeak, isCapacity, dayOf, isWorking, isCrowded, isUnmatched, surveyWith};
 use super::Survey;
 use numbers::bit;
 
@@ -38,23 +38,10 @@ pub fn none_high(marks: &[u8]) -> bool
     ok
 }
 
-// n: the number of peak hours.
-pub fn count_peaks(marks: &[u8]) -> u64
-    ensures { λ r. ⌜ (r ≡ peakCount (now (marks .entry))) × (r ≤ length (now (marks .entry))) ⌝ }
-{
-    let mut n: u64 = 0;
-    let mut h = 0;
-    while h < marks.len() {
-        n += bit(is_peak(marks[h]));
-        h += 1;
-    }
-    n
-}
-
 // The counts of day k.
 fn count_day(marks: &[u8], k: usize) -> Day
     requires { ⌜ 24 * k + 24 ≤ length (now marks) ⌝ }
-    ensures { λ r. ⌜ r ≡ dayOf (now (marks .entry)) k ⌝ }
+    ensures { λ r. ⌜ (r ≡ dayOf (now (marks .entry)) k) × (r .peaks ≤ 24) ⌝ }
 {
     let mut peaks: u64 = 0;
     let mut capacities: u64 = 0;
@@ -88,19 +75,21 @@ fn is_working(day: Day) -> bool
     0 < day.capacities
 }
 
-// Day by day, whether 42 and 43 apply, and d.
-pub fn survey_days(marks: &[u8], high: bool, peaks: u64) -> Survey
-    ensures { λ r. ⌜ r ≡ surveyWith (now (marks .entry)) high peaks ⌝ }
+// Day by day, whether 42 and 43 apply, n and d.
+pub fn survey_days(marks: &[u8], high: bool) -> Survey
+    ensures { λ r. ⌜ r ≡ surveyWith (now (marks .entry)) high ⌝ }
 {
     let all = marks.len() / 24;
     let mut crowded = false;
     let mut unmatched = false;
+    let mut peaks: u64 = 0;
     let mut days: u64 = 0;
     let mut k = 0;
     while k < all {
         let day = count_day(marks, k);
         crowded = crowded | is_crowded(day);
         unmatched = unmatched | is_unmatched(day);
+        peaks += day.peaks;
         days += bit(is_working(day));
         k += 1;
     }

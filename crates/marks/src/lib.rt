@@ -8,7 +8,6 @@ ghost use Rattle.marks.specs.Marks.{capacityAt, surveyOf, capacitySum, c
 mod days;
 pub mod peak;
 
-use days::count_peaks;
 use days::is_capacity;
 use days::none_high;
 use days::survey_days;
@@ -31,8 +30,7 @@ pub struct Survey {
 pub fn survey_marks(marks: &[u8]) -> Survey
     ensures { λ r. ⌜ r ≡ surveyOf (now (marks .entry)) ⌝ }
 {
-    let peaks = count_peaks(marks);
-    survey_days(marks, !none_high(marks), peaks)
+    survey_days(marks, !none_high(marks))
 }
 
 // The volume of hour h where it is a capacity hour, else 0.

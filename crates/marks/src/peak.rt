@@ -1,15 +1,31 @@
 // The peak rule.
+ghost use mathlib.Core.Path.{_≡_};
 ghost use Prim.Native.Nat.{_≤_};
 ghost use lib.ListN.{length};
 ghost use Rattle.sharing.specs.Shares.{monthFits, Shared};
+ghost use Rattle.marks.specs.Marks.{peakCount};
 ghost use Rattle.marks.specs.Peak.{peakRule, Flags};
-use super::days::count_peaks;
 use super::days::is_peak;
 use numbers::least;
+use numbers::short_bit;
 use sharing::share_apart;
 use units::Kw;
 use units::Kwh;
 use units::energy;
+
+// n of up to 744 marks, counted in 32 bits, so that the loop takes more marks at a time.
+fn count_peaks(marks: &[u8]) -> u32
+    requires { ⌜ length (now marks) ≤ 744 ⌝ }
+    ensures { λ r. ⌜ r ≡ peakCount (now (marks .entry)) ⌝ }
+{
+    let mut n: u32 = 0;
+    let mut h = 0;
+    while h < marks.len() {
+        n += short_bit(is_peak(marks[h]));
+        h += 1;
+    }
+    n
+}
 
 // The peak hours of up to 744 marks as flags.
 fn flag_peaks(marks: &[u8]) -> [bool; 744]
@@ -36,7 +52,7 @@ pub fn peak_rule(volume: Kwh, power: Kw, marks: &[u8], hours: &mut [u32]) -> boo
 {
     let t = marks.len();
     if t <= 744 {
-        let n = count_peaks(marks) as u32;
+        let n = count_peaks(marks);
         let flags = flag_peaks(marks);
         let most = energy(n, power);
         let a = least(volume.0, most.0);

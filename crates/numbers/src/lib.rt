@@ -33,6 +33,13 @@ pub fn bit(b: bool) -> u64
     if b { 1 } else { 0 }
 }
 
+// The same in 32 bits.
+pub fn short_bit(b: bool) -> u32
+    ensures { λ r. ⌜ (r ≡ cond b 1 0) × (r ≤ 1) ⌝ }
+{
+    if b { 1u32 } else { 0u32 }
+}
+
 pub fn least(a: u64, b: u64) -> u64
     ensures { λ r. ⌜ r ≡ min a b ⌝ }
 {

@@ -9,6 +9,8 @@ ghost use Rattle.sharing.specs.Shares.{one, within, taken, pastAt, chose
 ghost use Rattle.sharing.specs.Underway.{Counts, Others, Totals};
 use numbers::bit;
 use numbers::pick_wide;
+use numbers::short_bit;
+use numbers::wide;
 use numbers::word_at;
 
 // A weight as it is taken, where the weights of the chosen hours sum to s and k hours are chosen.
@@ -54,17 +56,18 @@ pub fn chosen_past(past: &[u32], chosen: &[bool], h: usize) -> u64
     if chosen[h] { past_at(past, h) } else { 0 }
 }
 
-// The number of chosen hours.
+// The number of chosen hours, counted in 32 bits, so that the loop takes more flags at a time.
 pub fn count(chosen: &[bool]) -> u64
+    requires { ⌜ length (now chosen) ≤ 744 ⌝ }
     ensures { λ r. ⌜ Counts (now (chosen .entry)) r ⌝ }
 {
-    let mut k: u64 = 0;
+    let mut k: u32 = 0;
     let mut h = 0;
     while h < chosen.len() {
-        k += bit(chosen[h]);
+        k += short_bit(chosen[h]);
         h += 1;
     }
-    k
+    wide(k)
 }
 
 // The sum of the past's weights in the chosen hours.

@@ -25,7 +25,7 @@ pub apart-spec : {M : Type 1} → statement M
 apart-spec =
     tie.close
     (tie.spec
-    (λ c κs. tt)
+    (λ c κs. search needs)
     (λ c. search needs)
     (λ c κs. tt)
     (λ c κs. tt)

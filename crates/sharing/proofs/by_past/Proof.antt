@@ -13,7 +13,7 @@ pub by-past-spec : {M : Type 1} → statement M
 by-past-spec =
     tie.close
     (tie.spec
-    (λ c κs. tt)
+    (λ c κs. search needs)
     (λ c κs. tt)
     (λ c κs. tt)
     (λ c κs. tt)

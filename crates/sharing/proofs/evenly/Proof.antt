@@ -8,7 +8,7 @@ pub evenly-spec : {M : Type 1} → statement M
 evenly-spec =
     tie.close
     (tie.spec
-    (λ c κs. tt)
+    (λ c κs. search needs)
     (λ c κs. tt)
     (λ c κs. tt)
     (λ c κs. tt)

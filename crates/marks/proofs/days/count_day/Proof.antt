@@ -32,7 +32,7 @@ returns c =
     let e : c .before .loop .h ≡ 24 = omega arith in
     let p = rw e at (c .before .loop .inv .3) in
     let q = rw e at (c .before .loop .inv .4) in
-    λ i. record { peaks = p i; capacities = q i }
+    (λ i. record { peaks = p i; capacities = q i }, omega arith)
 
 pub count-day-spec : {M : Type 1} → statement M
 count-day-spec =

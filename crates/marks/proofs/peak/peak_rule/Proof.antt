@@ -13,15 +13,14 @@ returns c =
     let counted = least .before .before .before in
     peak-shared _ _ _
     (part-of (least .before .before .flag-peaks .ensures) (counted .before .if1 .taken))
-    (least .least .ensures) (least .before .energy .ensures) (counted .count-peaks .ensures .0)
+    (least .least .ensures) (least .before .energy .ensures) (counted .count-peaks .ensures)
     (rw sub-zero at (c .before .before .share-apart .ensures))
 
 pub peak-rule-spec : {M : Type 1} → statement M
 peak-rule-spec =
     tie.close
     (tie.spec
-    (λ c κs. tt)
-    (λ c. search needs)
+    (λ c κs. search needs)
     (λ c κs. search needs)
     (λ c κs. tt)
     (λ c κs. tt)

@@ -5,25 +5,24 @@ use native.Mathlib.Numerals.{add-one}
 use lib.ListN.{length}
 use Rattle.numbers.specs.Lists.{countTo}
 use Rattle.marks.specs.Marks.{peakAt, peakCount}
-use Rattle.marks.proofs.days.count_peaks.Statement.{statement}
-use Rattle.marks.proofs.days.count_peaks.Tie as tie
+use Rattle.marks.proofs.peak.count_peaks.Statement.{statement}
+use Rattle.marks.proofs.peak.count_peaks.Tie as tie
 
 abbrev Inv-loop : tie.InvT-loop
-Inv-loop marks n₀ h₀ n h = (h ≤ length marks) × (n ≤ h) × (n ≡ countTo (peakAt marks) h)
+Inv-loop marks n₀ h₀ n h = (h ≤ length marks) × (length marks ≤ 744) × (n ≤ h) × (n ≡ countTo (peakAt marks) h)
 
 abbrev μ-loop : tie.MeasureT-loop
 μ-loop marks n₀ h₀ n h = length marks - h
 
 loop-again : tie.Need-loop-again Inv-loop μ-loop
 loop-again c =
-    let b = c .bit .ensures in
-    (omega arith, omega arith, rw (add-one, ← c .before .is-peak .ensures) (omega arith))
+    (omega arith, omega arith, omega arith, rw (add-one, ← c .before .is-peak .ensures) (omega arith))
 
 returns : tie.Need-returns Inv-loop μ-loop
 unfolding peakCount
 returns c =
     let e : c .before .loop .h ≡ length (c .before .before .before .args .marks .now) = omega arith in
-    (rw e at (c .before .loop .inv .2), omega arith)
+    rw e at (c .before .loop .inv .3)
 
 pub count-peaks-spec : {M : Type 1} → statement M
 count-peaks-spec =
@@ -31,7 +30,7 @@ count-peaks-spec =
     (tie.spec
     Inv-loop
     μ-loop
-    (λ c. (omega arith, omega arith, refl))
+    (λ c. (omega arith, omega arith, omega arith, refl))
     (λ c. omega arith)
     (λ c κs. tt)
     (λ c κs. tt)
