@@ -13,12 +13,14 @@ pub struct Day {
     pub capacities: u64,
 }
 
+// Whether a mark is a planned peak.
 pub fn is_peak(mark: u8) -> bool
     ensures { λ r. ⌜ r ≡ isPeak mark ⌝ }
 {
     (mark == 1) | (mark == 3)
 }
 
+// Whether a mark is a capacity hour.
 pub fn is_capacity(mark: u8) -> bool
     ensures { λ r. ⌜ r ≡ isCapacity mark ⌝ }
 {
@@ -69,6 +71,7 @@ fn is_unmatched(day: Day) -> bool
     (1 < day.capacities) | ((0 < day.peaks) & (day.capacities == 0))
 }
 
+// Whether a day is a working day.
 fn is_working(day: Day) -> bool
     ensures { λ r. ⌜ r ≡ isWorking day ⌝ }
 {

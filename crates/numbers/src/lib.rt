@@ -6,6 +6,7 @@ ghost use lib.ListN.{length};
 ghost use Rattle.numbers.specs.Lists.{at, zeros, noneAbove};
 ghost use Rattle.numbers.specs.Rounding.{halfUp};
 
+// A number of 32 bits in 64, so that a sum or a product of it fits.
 pub fn wide(x: u32) -> u64
     ensures { λ r. ⌜ r ≡ x ⌝ }
 {
@@ -40,6 +41,7 @@ pub fn short_bit(b: bool) -> u32
     if b { 1u32 } else { 0u32 }
 }
 
+// The smaller of two numbers.
 pub fn least(a: u64, b: u64) -> u64
     ensures { λ r. ⌜ r ≡ min a b ⌝ }
 {

@@ -25,7 +25,7 @@ pub fn sum_first(words: &[u32], n: usize) -> u64
 }
 
 // The same of the weights as they are taken over all places, where they sum to s.
-pub fn taken_first(s: u64, weights: &[u32], n: usize) -> u64
+fn taken_first(s: u64, weights: &[u32], n: usize) -> u64
     requires { ⌜ n ≤ 744 ⌝ }
     ensures { λ r. ⌜ r ≡ cond (eqb s 0) n (sumTo (at (now (weights .entry))) n) ⌝ }
 {

@@ -19,6 +19,7 @@ pub fn portion_of(v: u64, a: u64, s: u64) -> u64
     v * a / s
 }
 
+// A sharing before its first hour, by weights that sum to s.
 pub fn start(v: u64, s: u64) -> Progress
     ensures { λ r. ⌜ r ≡ started v s ⌝ }
 {

@@ -14,7 +14,7 @@ use numbers::wide;
 use numbers::word_at;
 
 // A weight as it is taken, where the weights of the chosen hours sum to s and k hours are chosen.
-pub fn taken_of(s: u64, k: u64, chosen: bool, w: u64) -> u64
+fn taken_of(s: u64, k: u64, chosen: bool, w: u64) -> u64
     ensures { λ r. ⌜ r ≡ cond (eqb s 0) (cond (eqb k 0) 1 (cond chosen 1 0)) (cond chosen w 0) ⌝ }
 {
     let even = pick_wide(k == 0, 1, pick_wide(chosen, 1, 0));
@@ -29,14 +29,14 @@ pub fn whole_of(s: u64, k: u64, n: u64) -> u64
 }
 
 // h - 168, and 0 where that is below 0.
-pub fn week_before(h: usize) -> usize
+fn week_before(h: usize) -> usize
     ensures { λ r. ⌜ r ≡ h - 168 ⌝ }
 {
     if h < 168 { 0 } else { h - 168 }
 }
 
 // Hour h of the past: where it lacks that hour, its hour h - 168.
-pub fn past_at(past: &[u32], h: usize) -> u64
+fn past_at(past: &[u32], h: usize) -> u64
     ensures { λ r. ⌜ (r ≡ pastAt (now (past .entry)) h) × (r ≤ 4294967295) ⌝ }
 {
     if h < past.len() {
@@ -46,7 +46,7 @@ pub fn past_at(past: &[u32], h: usize) -> u64
 }
 
 // The same in a chosen hour, and 0 in another.
-pub fn chosen_past(past: &[u32], chosen: &[bool], h: usize) -> u64
+fn chosen_past(past: &[u32], chosen: &[bool], h: usize) -> u64
     requires { ⌜ h < length (now chosen) ⌝ }
     ensures { λ r. ⌜
         (r ≡ within (chosenAt (now (chosen .entry))) (pastAt (now (past .entry))) h)
@@ -94,7 +94,7 @@ pub fn weight_by_past(s: u64, k: u64, past: &[u32], chosen: &[bool], h: usize) -
 }
 
 // The weight of an hour where k hours are chosen and share evenly.
-pub fn even_weight(k: u64, chosen: bool) -> u64
+fn even_weight(k: u64, chosen: bool) -> u64
     ensures { λ r. ⌜ r ≡ cond (eqb k 0) 1 (cond chosen 1 0) ⌝ }
 {
     pick_wide(k == 0, 1, bit(chosen))
