@@ -3,3 +3,4 @@ pub mod Rule
 pub mod Even
 pub mod Under
 pub mod Placing
+pub mod Examples

@@ -5,12 +5,12 @@ use mathlib.Core.Bool.{Bool, true, false, cond, not, _&&_, false≢true}
 use Prim.Native.Nat.{ℕ, zero, suc, _+_, _-_, _*_, _≤_, _<_}
 use native.Mathlib.Nat.{pos-of-ne-zero}
 use native.Mathlib.Omega.{arith}
-use borrow.Author.Tests.{eq-eqb, ne-eqb, eqb-true, eqb-false, leb-true, lt-leb}
+use borrow.Author.Tests.{eq-eqb, ne-eqb, eqb-true, eqb-false, leb-true, lt-leb, lt-ltb, le-ltb}
 use lib.Dec.{eqb, leb}
 use lib.ListN.{length}
 use Rattle.numbers.specs.Lists.{tab, sumTo, sum, at, padded}
 use Rattle.numbers.proofs.Laws.{sum-tab, sum-same, sum-ones, sum-both, tab-same, length-tab, at-tab, by-cases, both, and-false}
-use Rattle.sharing.specs.Shares.{one, within, orElse, taken, share, spread, sharesOver, apartAt, sharesApart, shares, every, monthFits, rowFits, Shared}
+use Rattle.sharing.specs.Shares.{one, within, orElse, taken, share, spread, sharesOver, apartAt, sharesApart, shares, every, pastAt, monthFits, rowFits, Shared}
 use Rattle.sharing.specs.Underway.{Fits}
 use Rattle.sharing.proofs.Laws.{Near, sum-spread, sum-share, near-share, length-spread, at-spread, share-same, spread-same}
 
@@ -102,6 +102,13 @@ pub shares-tab : (v n : ℕ) (chosen : ℕ → Bool) (w : ℕ → ℕ) → share
 unfolding sharesOver
 shares-tab v n chosen w =
     rw (length-tab n w) (spread-same v n _ _ (taken-same n chosen (at (tab n w)) w (at-tab n w)))
+
+-- law: where the past lacks an hour its hour h - 168 counts
+pub past-given : (past : List ℕ) (h : ℕ) → h < length past → pastAt past h ≡ at past h
+past-given past h l = rw (lt-ltb h (length past) l)
+
+pub past-short : (past : List ℕ) (h : ℕ) → length past ≤ h → pastAt past h ≡ at past (h - 168)
+past-short past h l = rw (le-ltb h (length past) l)
 
 -- the weights as the code works them out
 pub taken-is : (n : ℕ) (chosen : ℕ → Bool) (w : ℕ → ℕ) (h : ℕ) {s k x y : ℕ}
