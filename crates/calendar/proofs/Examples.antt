@@ -10,10 +10,10 @@ abbrev on : ℕ → ℕ → Date
 on y m = record { year = y; month = m }
 
 pub table :
-    (monthDays (on 2023 2) ≡ 28)
-    × (monthDays (on 2024 2) ≡ 29)
-    × (monthDays (on 2100 2) ≡ 28)
-    × (monthDays (on 2400 2) ≡ 29)
+    (monthDays (on 2019 2) ≡ 28)
+    × (monthDays (on 2020 2) ≡ 29)
+    × (monthDays (on 2200 2) ≡ 28)
+    × (monthDays (on 2800 2) ≡ 29)
     × (monthDays (on 2014 1) ≡ 31)
     × (monthDays (on 2999 12) ≡ 31)
     × (monthDays (on 3000 1) ≡ 0)

@@ -1,13 +1,13 @@
 -- What holds of months, their lengths and their numbers. Assumes nothing.
 use Prim.Native.Nat.{ℕ, zero, suc, _+_, _-_, _*_, _/_, _%_, _≤_, _<_}
-use mathlib.Core.Bool.{Bool, true, false, cond, _&&_, _||_, false≢true}
+use mathlib.Core.Bool.{Bool, true, false, cond, _&&_, _||_}
 use mathlib.Core.List.{List, [], _∷_}
 use mathlib.Core.Path.{_≡_, refl, sym, ap, _∙_}
 use native.Mathlib.Omega.{arith}
 use borrow.Author.Tests.{leb-true, leb-false, eqb-true, eqb-false, le-leb, eq-eqb}
 use lib.Dec.{leb, eqb, lit≤}
 use lib.ListN.{length, getD}
-use Rattle.numbers.proofs.Laws.{by-cases, both}
+use Rattle.numbers.proofs.Laws.{by-cases, both, first-of}
 use Rattle.calendar.specs.declared.Date.{Date}
 use Rattle.calendar.specs.Calendar.{monthTable, leapYear, isMonth, monthDays, monthHours, isEnd, isOpen, openHours, monthNumber, dateOf, dateIn, nextMonth, nextIn}
 
@@ -89,15 +89,11 @@ hours-low d h = omega (arith, hours-days d, days-low d h)
 pub hours-high : (d : Date) → monthHours d ≤ 744
 hours-high d = omega (arith, hours-days d, days-high d)
 
-first-or : (a b : Bool) → a || b ≡ true → b ≡ false → a ≡ true
-first-or true b h f = refl
-first-or false b h f = absurd (false≢true (sym f ∙ h))
-
 -- T of an open month is at least 672
 pub open-low : (d : Date) → isOpen d ≡ true → 672 ≤ openHours d
 unfolding openHours
 open-low d h =
-    by-cases (isEnd d) (λ t. rw t (lit≤ tt)) (λ f. rw f (hours-low d (first-or (isMonth d) (isEnd d) h f)))
+    by-cases (isEnd d) (λ t. rw t (lit≤ tt)) (λ f. rw f (hours-low d (first-of (isMonth d) (isEnd d) h f)))
 
 -- T of an open month is at most 744
 pub open-high : (d : Date) → isOpen d ≡ true → openHours d ≤ 744
@@ -168,7 +164,7 @@ open-limits d h =
     let m = eqb-true (d .month) 1 (both (eqb (d .year) 3000) (eqb (d .month) 1) t .1) in
     record { first = omega arith; last = omega arith; from = omega arith; to = omega arith })
     (λ f.
-    let l = limits d (first-or (isMonth d) (isEnd d) h f) in
+    let l = limits d (first-of (isMonth d) (isEnd d) h f) in
     record { first = l .first; last = l .last; from = omega arith; to = omega arith })
 
 -- what the functions answer inside the limits

@@ -11,7 +11,7 @@ use borrow.Author.Tests.{eqb-true, eqb-false}
 use lib.ListN.{length, List·getD-eq-default}
 use Rattle.numbers.specs.Lists.{tab, sumTo, countTo, sum, at}
 use Rattle.numbers.proofs.Laws.{by-cases, tab-same, at-tab, count-none, count-some}
-use Rattle.sharing.specs.Shares.{one, ones, every, taken, share, shares, spread, sharesOver, apartAt, sharesApart}
+use Rattle.sharing.specs.Shares.{one, ones, others, every, taken, share, shares, spread, sharesOver, apartAt, sharesApart}
 use Rattle.sharing.proofs.Laws.{Near, share-same}
 use Rattle.sharing.proofs.Rule.{sum-apart, length-apart, all-hours, shares-tab, chosen-same}
 use Rattle.sharing.proofs.Even.{even-near, even-most, share-none}
@@ -19,10 +19,11 @@ use Rattle.marks.specs.Marks.{peakAt, peakCount, crowded}
 use Rattle.marks.specs.Peak.{peakPart, peakRule}
 use Rattle.marks.proofs.Laws.{peaks-most}
 
--- A, and the others
+-- the hours that are no peaks
 abbrev otherAt : List ℕ → ℕ → Bool
-otherAt marks h = not (peakAt marks h)
+otherAt marks = others (peakAt marks)
 
+-- A is at most V, and at most n × P
 pub part-most : (v p : ℕ) (marks : List ℕ) → (peakPart v p marks ≤ v) × (peakPart v p marks ≤ p * peakCount marks)
 unfolding peakPart
 part-most v p marks = (omega arith, omega (arith, mul-comm p (peakCount marks)))
@@ -42,9 +43,9 @@ unfolding peakRule
 length-peak-rule v p marks = length-apart _ _ _ (length marks)
 
 -- the number of hours that are no peaks
-pub others : (marks : List ℕ) → countTo (otherAt marks) (length marks) ≡ length marks - peakCount marks
+pub other-count : (marks : List ℕ) → countTo (otherAt marks) (length marks) ≡ length marks - peakCount marks
 unfolding peakCount
-others marks = omega (arith, all-hours (peakAt marks) (length marks))
+other-count marks = omega (arith, all-hours (peakAt marks) (length marks))
 
 -- hour h of the rule
 at-peak-rule : (v p : ℕ) (marks : List ℕ) (h : ℕ) → h < length marks
@@ -89,7 +90,7 @@ module _ (v p : ℕ) (marks : List ℕ) (h : ℕ) where
   other-share-most : (x : ℕ) → 0 < length marks - peakCount marks → v ≤ x * (length marks - peakCount marks) → other-share ≤ cond (otherAt marks h) x 0
   unfolding other-share
   other-share-most x some l =
-      even-most (length marks) (otherAt marks) (rw (others marks) some) (v - peakPart v p marks) h x (rw (others marks) (omega arith))
+      even-most (length marks) (otherAt marks) (rw (other-count marks) some) (v - peakPart v p marks) h x (rw (other-count marks) (omega arith))
 
 -- LAW: no hour above 3,000,000 where the marks pass 42, V is at most T × 1,000,000 and P at most 1,000,000
 pub peak-rule-most : (v p k : ℕ) (marks : List ℕ) → length marks ≡ 24 * k → 0 < k → crowded marks k ≡ false → p ≤ 1000000 → v ≤ length marks * 1000000
@@ -117,5 +118,5 @@ module _ (v p : ℕ) (marks : List ℕ) (h : ℕ) (l : h < length marks) (rest :
   unfolding peak-share
   other-near f =
       let none : peak-share v p marks h ≤ 0 = rw f at (peak-share-most v p marks h) in
-      near-sum (rw (others marks) at (even-near (length marks) (otherAt marks) (rw (others marks) rest) (v - peakPart v p marks) h (rw f)))
+      near-sum (rw (other-count marks) at (even-near (length marks) (otherAt marks) (rw (other-count marks) rest) (v - peakPart v p marks) h (rw f)))
       (at-peak-rule v p marks h l ∙ omega arith)

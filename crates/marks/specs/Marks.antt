@@ -35,10 +35,6 @@ dayOf marks k =
 abbrev pub isWorking : Day → Bool
 isWorking day = ltb 0 (day .capacities)
 
--- n of the first k days
-unfoldable pub dayPeaks : List ℕ → ℕ → ℕ
-dayPeaks marks k = sumTo (λ j. dayOf marks j .peaks) k
-
 -- 42: over 16 peak hours in a day
 abbrev pub isCrowded : Day → Bool
 isCrowded day = ltb 16 (day .peaks)
@@ -69,7 +65,7 @@ surveyWith marks high =
       high = high;
       crowded = crowded marks (length marks / 24);
       unmatched = unmatched marks (length marks / 24);
-      peaks = dayPeaks marks (length marks / 24);
+      peaks = countTo (peakAt marks) (24 * (length marks / 24));
       days = workingDays marks (length marks / 24);
     }
 

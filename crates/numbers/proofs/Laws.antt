@@ -1,6 +1,6 @@
 -- What holds of tables, sums and tests over an index, and of a loop that fills a list from the front. Assumes nothing.
 use mathlib.Core.Path.{_≡_, refl, sym, ap, ap₂, _∙_}
-use mathlib.Core.Logic.{⊎-elim}
+use mathlib.Core.Logic.{_⊎_, inl, inr, ⊎-elim}
 use mathlib.Core.List.{List, [], _∷_, _++_, append-assoc}
 use mathlib.Core.Bool.{Bool, true, false, cond, _&&_, _||_, false≢true}
 use Prim.Native.Nat.{ℕ, zero, suc, _+_, _-_, _*_, _≤_, _<_}
@@ -8,8 +8,8 @@ use native.Mathlib.Nat.{not-suc-le-zero, le-of-suc-le-suc, eq-or-lt-of-le, le-re
 use native.Mathlib.Numerals.{add-one}
 use native.Mathlib.Omega.{arith}
 use native.Mathlib.Decide.{le-ind, decLt}
-use borrow.Author.Tests.{leb-true}
-use lib.Dec.{leb}
+use borrow.Author.Tests.{leb-true, lt-ltb}
+use lib.Dec.{leb, ltb}
 use lib.ListN.{length, getD, drop, set, length-append, length-set, List·getD-append, List·getD-eq-default}
 use lib.Seq.{drop-cons, set-at, getD-at}
 use Rattle.numbers.specs.Lists.{tab, sumTo, allTo, anyTo, countTo, sum, at, zeros, padded, noneAbove, Filled}
@@ -26,6 +26,23 @@ both false b e = absurd (false≢true e)
 pub neither : (a b : Bool) → a || b ≡ false → (a ≡ false) × (b ≡ false)
 neither true b e = absurd (false≢true (sym e))
 neither false b e = (refl, e)
+
+-- one of two tests holds; the first does where the second does not
+pub either : (a b : Bool) → a || b ≡ true → (a ≡ true) ⊎ (b ≡ true)
+either true b e = inl refl
+either false b e = inr e
+
+pub first-of : (a b : Bool) → a || b ≡ true → b ≡ false → a ≡ true
+first-of true b e f = refl
+first-of false b e f = absurd (false≢true (sym f ∙ e))
+
+or-true : (a : Bool) → a || true ≡ true
+or-true true = refl
+or-true false = refl
+
+or-false : (a : Bool) → a || false ≡ a
+or-false true = refl
+or-false false = refl
 
 pub and-false : (a : Bool) → a && false ≡ false
 and-false true = refl
@@ -72,9 +89,9 @@ sum-both f g zero = refl
 sum-both f g (suc n) = omega (arith, sum-both f g n)
 
 -- n numbers of at most k each
-pub sum-most : (f : ℕ → ℕ) (k n : ℕ) → ((h : ℕ) → f h ≤ k) → sumTo f n ≤ k * n
+pub sum-most : (f : ℕ → ℕ) (k n : ℕ) → ((h : ℕ) → h < n → f h ≤ k) → sumTo f n ≤ k * n
 sum-most f k zero e = omega arith
-sum-most f k (suc n) e = omega (arith, sum-most f k n e, e n)
+sum-most f k (suc n) e = omega (arith, sum-most f k n (λ h l. e h (le-step l)), e n (le-refl _))
 
 pub count-some : (f : ℕ → Bool) (n h : ℕ) → h < n → f h ≡ true → 0 < countTo f n
 count-some f n h l t =
@@ -96,6 +113,14 @@ count-holds f (suc n) l =
     let less : 0 < countTo f n = simp (g, add-zero) at l in
     let e = count-holds f n less in
     record { index = e .index; below = le-step (e .below); holds = e .holds })
+
+-- some index has a count just where f holds of one
+pub count-any : (f : ℕ → Bool) (n : ℕ) → ltb 0 (countTo f n) ≡ anyTo f n
+count-any f zero = refl
+count-any f (suc n) =
+    by-cases (f n)
+    (λ t. rw (t, or-true (anyTo f n)) (lt-ltb 0 (countTo f n + 1) (omega arith)))
+    (λ g. rw (g, add-zero, or-false (anyTo f n)) (count-any f n))
 
 -- no test of one of the indexes holds where the test of any does not
 pub none-at : (f : ℕ → Bool) (n k : ℕ) → anyTo f n ≡ false → k < n → f k ≡ false
@@ -131,12 +156,7 @@ sum-weighted chosen f k (suc n) e =
     let s = sum-weighted chosen f k n e in
     by-cases (chosen n) (λ t. rw t (omega (arith, e n, mul-add k (countTo chosen n) 1))) (λ g. rw (g, add-zero, add-zero) s)
 
--- the same of indexes below n
-pub sum-most-below : (f : ℕ → ℕ) (k n : ℕ) → ((h : ℕ) → h < n → f h ≤ k) → sumTo f n ≤ k * n
-sum-most-below f k zero e = omega arith
-sum-most-below f k (suc n) e = omega (arith, sum-most-below f k n (λ h l. e h (le-step l)), e n (le-refl _))
-
--- a count is 0 where f holds of none, and above 0 where it holds of one
+-- f holds of none where the count is 0
 pub count-none : (f : ℕ → Bool) (n : ℕ) → countTo f n ≡ 0 → (h : ℕ) → h < n → f h ≡ false
 count-none f n e h l =
     by-cases (f h) (λ t. absurd (omega (arith, count-some f n h l t))) (λ g. g)

@@ -1,4 +1,4 @@
--- The examples of document 01 on power and the cable formula, and each limit from both sides, by computation. Assumes nothing.
+-- Powers and the cable formula at each limit from both sides, by computation. Assumes nothing.
 use Prim.Native.Nat.{ℕ}
 use mathlib.Core.Path.{_≡_}
 use mathlib.Core.Bool.{true, false}
@@ -17,13 +17,13 @@ cable i u c n = record { amperes = i; volts = u; cosine = c; phases = n }
 abbrev none : ℕ
 none = 18446744073709551615
 
--- e and f: the formula, with c missing and with a half rounded up
+-- a half rounds up and less than a half down; c counts as given, or as 900 where it is missing; no hours give nothing
 pub volumes :
-    (formulaIn (cable 100 230 0 3) 720 ≡ 29808)
-    × (formulaIn (cable 100 230 0 1) 720 ≡ 9936)
-    × (formulaIn (cable 100 230 900 3) 720 ≡ 29808)
-    × (formulaIn (cable 1 25 125 1) 720 ≡ 2)
-    × (formulaIn (cable 100 230 0 3) 0 ≡ 0)
+    (formulaIn (cable 3 25 125 1) 240 ≡ 2)
+    × (formulaIn (cable 3 25 125 1) 239 ≡ 1)
+    × (formulaIn (cable 3 25 125 3) 240 ≡ 5)
+    × (formulaIn (cable 60 220 0 3) 744 ≡ formulaIn (cable 60 220 900 3) 744)
+    × (formulaIn (cable 60 220 0 3) 0 ≡ 0)
 unfolding formula cableFits formulaIn halfUp
 volumes = search needs
 
@@ -44,10 +44,11 @@ pub outside :
 unfolding formula cableFits formulaIn halfUp
 outside = search needs
 
--- g: 10 kW by 1, 1, 1, and the limits of a list
+-- shares in list order, which may be 0, and the limits of a list
 pub lists :
-    (sharedPower 10 (1 ∷ 1 ∷ 1 ∷ []) 0 ≡ 3)
-    × (sharedPower 10 (1 ∷ 1 ∷ 1 ∷ []) 2 ≡ 4)
+    (sharedPower 10 (1 ∷ 2 ∷ 3 ∷ []) 0 ≡ 1)
+    × (sharedPower 10 (1 ∷ 2 ∷ 3 ∷ []) 1 ≡ 4)
+    × (sharedPower 10 (1 ∷ 2 ∷ 3 ∷ []) 2 ≡ 5)
     × (sharedPower 1 (1 ∷ 2000 ∷ []) 0 ≡ 0)
     × (listFits (1 ∷ 1 ∷ 1 ∷ []) 2 ≡ true)
     × (listFits (1 ∷ 1 ∷ 1 ∷ []) 3 ≡ false)

@@ -3,7 +3,7 @@ use Prim.Native.Nat.{ℕ, _*_, _≤_}
 use mathlib.Core.Path.{_≡_, refl}
 use mathlib.Core.Bool.{Bool, true, false, _&&_, _||_}
 use mathlib.Core.List.{List}
-use mathlib.Core.Logic.{_⊎_, inl, inr, ⊎-elim}
+use mathlib.Core.Logic.{inl, inr, ⊎-elim}
 use native.Mathlib.Nat.{mul-le-mul, le-refl}
 use native.Mathlib.Omega.{arith}
 use native.Mathlib.Decide.{decLt}
@@ -11,11 +11,10 @@ use borrow.Author.Tests.{leb-true, le-leb, eqb-true, ltb-true}
 use lib.Dec.{eqb, leb, ltb}
 use lib.ListN.{length, List·getD-eq-default}
 use Rattle.numbers.specs.Lists.{allTo, sumTo, at}
-use Rattle.numbers.proofs.Laws.{by-cases, both, cond-most, all-at, sum-most}
+use Rattle.numbers.proofs.Laws.{by-cases, both, either, cond-most, all-at, sum-most}
 use Rattle.numbers.proofs.Rounds.{half-up-most}
-use Rattle.sharing.specs.Shares.{taken, every, shares, sharesOver, monthFits, weightsFit, shareIn}
-use Rattle.sharing.proofs.Laws.{share-whole, at-spread}
-use Rattle.sharing.proofs.Rule.{taken-some, length-shares}
+use Rattle.sharing.specs.Shares.{monthFits, weightsFit, shareIn}
+use Rattle.sharing.proofs.Rule.{shares-most}
 use Rattle.power.specs.declared.Cable.{Cable}
 use Rattle.power.specs.Power.{countedCosine, formula, cableFits, formulaIn, agreedFits, currentFits, listFits, sharedPower, basisFits, powerOn}
 use Rattle.power.specs.Limits.{CableLimits, AgreedLimits, ListLimits}
@@ -24,11 +23,6 @@ use Rattle.power.specs.Limits.{CableLimits, AgreedLimits, ListLimits}
 pub same-cable : {a v c n : ℕ} (k : Cable) → a ≡ k .amperes → v ≡ k .volts → c ≡ k .cosine → n ≡ k .phases
     → record { amperes = a; volts = v; cosine = c; phases = n } ≡ k
 same-cable k e f g h = λ i. record { amperes = e i; volts = f i; cosine = g i; phases = h i }
-
--- one of the two holds
-either : (a b : Bool) → a || b ≡ true → (a ≡ true) ⊎ (b ≡ true)
-either true b e = inl refl
-either false b e = inr e
 
 -- the limits that cableFits tests
 pub cable-limits : (k : Cable) → cableFits k ≡ true → CableLimits k
@@ -92,18 +86,8 @@ formula-in c t h l = rw (h, le-leb t 8760 l)
 
 -- law: no place gets more than the power that is shared
 pub shared-most : (p : ℕ) (currents : List ℕ) (place : ℕ) → sharedPower p currents place ≤ p
-unfolding sharedPower sharesOver
-shared-most p currents place =
-    let n = length currents in
-    let w : ℕ → ℕ = taken n every (at currents) in
-    elim (decLt place n) [
-      | yes l ↦ rw (at-spread p n w place l) (share-whole p n w (taken-some n every (at currents) (omega arith)) place l)
-      | no f ↦ rw (List·getD-eq-default (shares p currents) 0 {n = place} (rw length-shares (omega arith))) (omega arith)
-    ]
-
-pub share-in-most : (v : ℕ) (ws : List ℕ) (place : ℕ) → shareIn v ws place ≤ v
-unfolding shareIn sharedPower
-share-in-most v ws place = cond-most (monthFits v (length ws) (length ws) && weightsFit (sumTo (at ws) (length ws))) (shared-most v ws place) (omega arith)
+unfolding sharedPower
+shared-most p currents place = shares-most p currents place
 
 -- within the limits of basis 2 the numbers fit that are shared
 pub shared-in : (p : ℕ) (currents : List ℕ) (place : ℕ)
@@ -113,7 +97,7 @@ shared-in p currents place h =
     let a = agreed-limits p (both (agreedFits p) (listFits currents place) h .0) in
     let l = list-limits currents place (both (agreedFits p) (listFits currents place) h .1) in
     let n = length currents in
-    let s : sumTo (at currents) n ≤ 2232000000 = omega (arith, sum-most (at currents) 2000 n (l .high)) in
+    let s : sumTo (at currents) n ≤ 2232000000 = omega (arith, sum-most (at currents) 2000 n (λ k m. l .high k)) in
     rw (le-leb p 744000000 (omega arith), le-leb 1 n (l .some), le-leb n 744 (omega arith), le-leb n n (le-refl n), le-leb _ 2232000000 s)
 
 -- law: P is at most 1,000,000 on every basis

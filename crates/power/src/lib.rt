@@ -3,7 +3,7 @@ use numbers::half_up;
 use numbers::pick;
 use numbers::pick_wide;
 use numbers::wide;
-use sharing::share_at;
+use sharing::share_power;
 use units::Kw;
 use units::Kwh;
 ghost use mathlib.Core.Path.{_≡_};
@@ -140,7 +140,7 @@ pub fn shared_power(agreed: Kw, currents: &[u32], place: usize) -> Kw
     ensures { λ r. ⌜ r .0 ≡ powerIn (agreedFits (agreed .0) && listFits (now (currents .entry)) place) (sharedPower (agreed .0) (now (currents .entry)) place) ⌝ }
 {
     if agreed_fits(agreed) & list_fits(currents, place) {
-        return Kw(share_at(wide(agreed.0), currents, place) as u32);
+        return share_power(agreed, currents, place);
     }
     Kw(0)
 }

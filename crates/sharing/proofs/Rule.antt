@@ -5,14 +5,15 @@ use mathlib.Core.Bool.{Bool, true, false, cond, not, _&&_, false≢true}
 use Prim.Native.Nat.{ℕ, zero, suc, _+_, _-_, _*_, _≤_, _<_}
 use native.Mathlib.Nat.{pos-of-ne-zero}
 use native.Mathlib.Omega.{arith}
+use native.Mathlib.Decide.{decLt}
 use borrow.Author.Tests.{eq-eqb, ne-eqb, eqb-true, eqb-false, leb-true, lt-leb, lt-ltb, le-ltb}
 use lib.Dec.{eqb, leb}
-use lib.ListN.{length}
+use lib.ListN.{length, List·getD-eq-default}
 use Rattle.numbers.specs.Lists.{tab, sumTo, sum, at, padded}
-use Rattle.numbers.proofs.Laws.{sum-tab, sum-same, sum-ones, sum-both, tab-same, length-tab, at-tab, by-cases, both, and-false}
-use Rattle.sharing.specs.Shares.{one, within, orElse, taken, share, spread, sharesOver, apartAt, sharesApart, shares, every, pastAt, monthFits, rowFits, Shared}
+use Rattle.numbers.proofs.Laws.{sum-tab, sum-same, sum-ones, sum-both, tab-same, length-tab, at-tab, by-cases, both, and-false, cond-most}
+use Rattle.sharing.specs.Shares.{one, others, within, orElse, taken, share, spread, sharesOver, apartAt, sharesApart, shares, every, pastAt, monthFits, weightsFit, shareIn, rowFits, Shared}
 use Rattle.sharing.specs.Underway.{Fits}
-use Rattle.sharing.proofs.Laws.{Near, sum-spread, sum-share, near-share, length-spread, at-spread, share-same, spread-same}
+use Rattle.sharing.proofs.Laws.{Near, sum-spread, sum-share, near-share, share-whole, length-spread, at-spread, share-same, spread-same}
 
 -- of two kinds of weights, the sum is that of the kind that counts
 or-sum : (n : ℕ) (w u : ℕ → ℕ) → sumTo (orElse n w u) n ≡ cond (eqb (sumTo w n) 0) (sumTo u n) (sumTo w n)
@@ -61,6 +62,21 @@ module _ (v : ℕ) (chosen : ℕ → Bool) (ws : List ℕ) where
     near-shares h l =
         rw (at-spread v (length ws) (taken (length ws) chosen (at ws)) h l)
         (near-share v (length ws) (taken (length ws) chosen (at ws)) (taken-some (length ws) chosen (at ws) some) h)
+
+-- law: no place gets more than what is shared
+pub shares-most : (v : ℕ) (ws : List ℕ) (place : ℕ) → at (shares v ws) place ≤ v
+unfolding sharesOver
+shares-most v ws place =
+    let n = length ws in
+    let w : ℕ → ℕ = taken n every (at ws) in
+    elim (decLt place n) [
+      | yes l ↦ rw (at-spread v n w place l) (share-whole v n w (taken-some n every (at ws) (omega arith)) place l)
+      | no f ↦ rw (List·getD-eq-default (shares v ws) 0 {n = place} (rw length-shares (omega arith))) (omega arith)
+    ]
+
+pub share-in-most : (v : ℕ) (ws : List ℕ) (place : ℕ) → shareIn v ws place ≤ v
+unfolding shareIn
+share-in-most v ws place = cond-most (monthFits v (length ws) (length ws) && weightsFit (sumTo (at ws) (length ws))) (shares-most v ws place) (omega arith)
 
 -- law: over all hours, weights that sum to 0 count as 1 each, and others as they are
 pub taken-zero : (n : ℕ) (w : ℕ → ℕ) → sumTo w n ≡ 0 → (h : ℕ) → taken n every w h ≡ 1
@@ -131,7 +147,7 @@ one-of true = refl
 one-of false = refl
 
 -- the chosen hours and the others are all
-pub all-hours : (chosen : ℕ → Bool) (n : ℕ) → sumTo (within chosen one) n + sumTo (within (λ k. not (chosen k)) one) n ≡ n
+pub all-hours : (chosen : ℕ → Bool) (n : ℕ) → sumTo (within chosen one) n + sumTo (within (others chosen) one) n ≡ n
 all-hours chosen zero = refl
 all-hours chosen (suc n) = omega (arith, all-hours chosen n, one-of (chosen n))
 
@@ -144,13 +160,13 @@ pub sum-apart : (a b : ℕ) (chosen : ℕ → Bool) (n : ℕ) → 0 < n → sum 
 unfolding sharesApart apartAt
 sum-apart a b chosen n some =
     let f : ℕ → ℕ = share a n (taken n chosen one) in
-    let g : ℕ → ℕ = share b n (taken n (λ k. not (chosen k)) one) in
+    let g : ℕ → ℕ = share b n (taken n (others chosen) one) in
     sum-tab n (λ h. f h + g h)
     ∙ omega (
       arith,
       sum-both f g n,
       sum-share a n (taken n chosen one) (taken-some n chosen one some),
-      sum-share b n (taken n (λ k. not (chosen k)) one) (taken-some n (λ k. not (chosen k)) one some),
+      sum-share b n (taken n (others chosen) one) (taken-some n (others chosen) one some),
     )
 
 pub apart-same : (a b n : ℕ) (f g : ℕ → Bool) → ((h : ℕ) → h < n → f h ≡ g h) → sharesApart a b f n ≡ sharesApart a b g n
@@ -159,7 +175,7 @@ apart-same a b n f g e =
     tab-same n _ _ λ h l.
     ap₂ (λ (s t : ℕ). s + t)
     (share-same a n _ _ (chosen-same n f g one e) h l)
-    (share-same b n _ _ (chosen-same n (λ k. not (f k)) (λ k. not (g k)) one (λ k m. rw (e k m))) h l)
+    (share-same b n _ _ (chosen-same n (others f) (others g) one (λ k m. rw (e k m))) h l)
 
 -- numbers that pass the test of the limits are within them
 pub month-fits : {v t room : ℕ} → monthFits v t room ≡ true → Fits v t room

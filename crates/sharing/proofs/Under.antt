@@ -9,7 +9,7 @@ use lib.ListN.{length, set}
 use lib.Dec.{eqb}
 use Rattle.numbers.specs.Lists.{tab, sumTo, zeros, padded, Filled}
 use Rattle.numbers.proofs.Laws.{cond-most, sum-up, sum-most, filled-more, filled-padded}
-use Rattle.sharing.specs.Shares.{one, within, taken, share, spread, sharesOver, apartAt, sharesApart, chosenAt}
+use Rattle.sharing.specs.Shares.{one, others, within, taken, share, spread, sharesOver, apartAt, sharesApart, chosenAt}
 use Rattle.sharing.specs.Underway.{started, stepped, running, Divides, Ready, Gains, Gained, Under, Counts, Others}
 use Rattle.sharing.specs.declared.progress.Progress.{Progress}
 use native.Mathlib.Omega.{arith}
@@ -32,7 +32,7 @@ pub under-taken : {v n s k whole : ℕ} {p : Progress} (chosen : ℕ → Bool) (
 under-taken {n = n} {s = s} {k = k} chosen w e f g i some hours volume weights =
     let j : _ ≡ sumTo (taken n chosen w) n = f ∙ rw (g, i, taken-sum n chosen w) in
     under-start e j (rw j (taken-some n chosen w some)) volume
-    (rw f (cond-most (eqb s 0) (cond-most (eqb k 0) (omega arith) (omega (arith, sum-most (within chosen one) 1 n (λ h. cond-most (chosen h) (omega arith) (omega arith))))) weights))
+    (rw f (cond-most (eqb s 0) (cond-most (eqb k 0) (omega arith) (omega (arith, sum-most (within chosen one) 1 n (λ h l. cond-most (chosen h) (omega arith) (omega arith))))) weights))
 
 pub under-even : {v n k whole : ℕ} {p : Progress} (chosen : ℕ → Bool)
     → p ≡ started v whole → whole ≡ cond (eqb k 0) (cond (eqb k 0) n k) k → k ≡ sumTo (within chosen one) n → k ≤ n → 1 ≤ n → n ≤ 744 → v ≤ 744000000
@@ -70,7 +70,7 @@ module _ {v n : ℕ} {w : ℕ → ℕ} {p : Progress} {h : ℕ} (u : Under v n w
 pub filled-apart : {h i j x y : ℕ} {d l : List ℕ} {p p′ q q′ : Progress} (a b n : ℕ) (chosen : ℕ → Bool)
     → Filled (apartAt a b chosen n) d l h → h < n → n ≤ length d
     → Under a n (taken n chosen one) p h → x ≡ taken n chosen one h → p′ ≡ stepped p x → Gained p p′ i
-    → Under b n (taken n (λ k. not (chosen k)) one) q h → y ≡ taken n (λ k. not (chosen k)) one h → q′ ≡ stepped q y → Gained q q′ j
+    → Under b n (taken n (others chosen) one) q h → y ≡ taken n (others chosen) one h → q′ ≡ stepped q y → Gained q q′ j
     → Filled (apartAt a b chosen n) d (set l h (i + j)) (h + 1)
 unfolding apartAt
 filled-apart a b n chosen filled lt le u e f g v o r k =

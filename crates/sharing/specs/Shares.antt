@@ -52,9 +52,13 @@ every h = true
 abbrev pub shares : ℕ → List ℕ → List ℕ
 shares v ws = sharesOver v every ws
 
+-- the hours that are not chosen
+abbrev pub others : (ℕ → Bool) → ℕ → Bool
+others chosen h = not (chosen h)
+
 -- hour h where the first volume is shared evenly over the chosen of n hours, and the second evenly over the others
 unfoldable pub apartAt : ℕ → ℕ → (ℕ → Bool) → ℕ → ℕ → ℕ
-apartAt a b chosen n h = share a n (taken n chosen one) h + share b n (taken n (λ k. not (chosen k)) one) h
+apartAt a b chosen n h = share a n (taken n chosen one) h + share b n (taken n (others chosen) one) h
 
 unfoldable pub sharesApart : ℕ → ℕ → (ℕ → Bool) → ℕ → List ℕ
 sharesApart a b chosen n = tab n (apartAt a b chosen n)
@@ -80,7 +84,7 @@ abbrev pub chosenAt : List Bool → ℕ → Bool
 chosenAt chosen h = getD chosen h false
 
 abbrev pub otherAt : List Bool → ℕ → Bool
-otherAt chosen h = not (chosenAt chosen h)
+otherAt chosen = others (chosenAt chosen)
 
 -- THE LIMITS of the functions, so that every number fits: a volume of at most 744 × 1,000,000 kWh, 1 to 744 hours and a buffer that holds them
 unfoldable pub monthFits : ℕ → ℕ → ℕ → Bool

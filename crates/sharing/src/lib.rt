@@ -17,9 +17,11 @@ use fill::fill_apart;
 use fill::fill_by_past;
 use fill::fill_evenly;
 use numbers::clear;
+use numbers::wide;
 use place::at_place;
 use place::sum_first;
 use progress::start;
+use units::Kw;
 use units::Kwh;
 use weights::count;
 use weights::total;
@@ -183,7 +185,7 @@ pub fn share_apart(first: Kwh, second: Kwh, chosen: &[bool], hours: &mut [u32]) 
 }
 
 // What one place of a list gets of a number shared by weights, and 0 outside the list or where the numbers do not fit.
-pub fn share_at(v: u64, weights: &[u32], place: usize) -> u64
+fn share_at(v: u64, weights: &[u32], place: usize) -> u64
     ensures { λ r. ⌜ r ≡ shareIn v (now (weights .entry)) place ⌝ }
 {
     let n = weights.len();
@@ -196,4 +198,11 @@ pub fn share_at(v: u64, weights: &[u32], place: usize) -> u64
         }
     }
     0
+}
+
+// What one place of a list gets of a power shared by weights, and 0 outside the list or where the numbers do not fit.
+pub fn share_power(power: Kw, weights: &[u32], place: usize) -> Kw
+    ensures { λ r. ⌜ r .0 ≡ shareIn (power .0) (now (weights .entry)) place ⌝ }
+{
+    Kw(share_at(wide(power.0), weights, place) as u32)
 }

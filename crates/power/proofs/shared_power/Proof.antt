@@ -1,8 +1,6 @@
 use mathlib.Core.Path.{_∙_}
-use Prim.Native.Nat.{_≤_}
-use native.Mathlib.Omega.{arith}
 use borrow.Author.Needs.{needs}
-use Rattle.power.proofs.Laws.{shared-in, share-in-most}
+use Rattle.power.proofs.Laws.{shared-in}
 use Rattle.power.proofs.shared_power.Statement.{statement}
 use Rattle.power.proofs.shared_power.Tie as tie
 
@@ -13,12 +11,8 @@ shared-power-spec =
     (λ c κs. search needs)
     (λ c κs. search needs)
     (λ c κs. search needs)
-    (λ c κs. search needs)
     (λ c.
-    let most : c .share-at .result ≤ c .before .wide .result = rw (c .share-at .ensures) (share-in-most _ _ _) in
-    omega (arith, c .before .wide .ensures))
-    (λ c.
-    let tested = c .before .before .before in
-    let fits = rw (tested .before .agreed-fits .ensures, tested .list-fits .ensures) at (c .before .before .if1 .taken) in
-    rw fits (rw (c .before .wide .ensures) at (c .share-at .ensures) ∙ shared-in _ _ _ fits))
+    let tested = c .before .before in
+    let fits = rw (tested .before .agreed-fits .ensures, tested .list-fits .ensures) at (c .before .if1 .taken) in
+    rw fits (c .share-power .ensures ∙ shared-in _ _ _ fits))
     (λ c. rw (← c .before .before .agreed-fits .ensures, ← c .before .list-fits .ensures, c .if1 .left)))

@@ -1,9 +1,12 @@
-use mathlib.Core.Path.{_≡_, refl}
+use mathlib.Core.Path.{_≡_, refl, sym, _∙_}
+use mathlib.Core.Bool.{cond}
 use Prim.Native.Nat.{_≤_, _-_, _*_, _/_}
 use native.Mathlib.Omega.{arith}
 use native.Mathlib.Numerals.{add-one}
 use lib.ListN.{length}
-use Rattle.marks.specs.Marks.{dayPeaks, workingDays, crowded, unmatched, surveyWith}
+use Rattle.numbers.specs.Lists.{sumTo}
+use Rattle.numbers.proofs.Laws.{sum-parts}
+use Rattle.marks.specs.Marks.{peakAt, dayOf, workingDays, crowded, unmatched, surveyWith}
 use Rattle.marks.proofs.days.survey_days.Statement.{statement}
 use Rattle.marks.proofs.days.survey_days.Tie as tie
 
@@ -15,18 +18,18 @@ Inv-loop marks high all crowded₀ unmatched₀ peaks₀ days₀ k₀ bad odd pe
     × (peaks ≤ 24 * k)
     × (bad ≡ crowded marks k)
     × (odd ≡ unmatched marks k)
-    × (peaks ≡ dayPeaks marks k)
+    × (peaks ≡ sumTo (λ j. dayOf marks j .peaks) k)
     × (days ≡ workingDays marks k)
 
 abbrev μ-loop : tie.MeasureT-loop
 μ-loop marks high all crowded₀ unmatched₀ peaks₀ days₀ k₀ bad odd peaks days k = all - k
 
 loop-holds : tie.Need-loop-holds Inv-loop μ-loop
-unfolding crowded unmatched dayPeaks workingDays
+unfolding crowded unmatched workingDays
 loop-holds c = (refl, omega arith, omega arith, omega arith, refl, refl, refl, refl)
 
 loop-again : tie.Need-loop-again Inv-loop μ-loop
-unfolding crowded unmatched dayPeaks workingDays
+unfolding crowded unmatched workingDays
 loop-again c =
     let tests = c .before .before .before in
     let loop = tests .before .before .before .before .loop in
@@ -48,7 +51,8 @@ returns c =
     let e : loop .k ≡ length (c .before .before .before .args .marks .now) / 24 = omega arith in
     let bad = rw e at (loop .inv .4) in
     let odd = rw e at (loop .inv .5) in
-    let peaks = rw e at (loop .inv .6) in
+    let marks = c .before .before .before .args .marks .now in
+    let peaks = rw e at (loop .inv .6) ∙ sym (sum-parts (λ h. cond (peakAt marks h) 1 0) 24 (length marks / 24)) in
     let days = rw e at (loop .inv .7) in
     λ i. record { high = c .before .before .before .args .high; crowded = bad i; unmatched = odd i; peaks = peaks i; days = days i }
 
