@@ -7,13 +7,15 @@
 #include <string.h>
 #include <time.h>
 
-/* One test to each CHECK in the text, however often it runs. */
-static int seen[1000], wrong[1000];
-#define CHECK(x)                                                                                                       \
-    do {                                                                                                               \
-        seen[__LINE__] = 1;                                                                                            \
-        if (!(x) && !wrong[__LINE__]++) printf("FAIL %s:%d: %s\n", __FILE__, __LINE__, #x);                            \
-    } while (0)
+/* One test to each CHECK in the text, however often it runs; one that is never reached fails. */
+#define MOST 100
+static int runs[MOST], wrong[MOST];
+#define CHECK(x) check((x), __COUNTER__, __LINE__, #x)
+
+static void check(int ok, int at, int line, const char *text) {
+    if (!ok && !wrong[at]++) printf("FAIL %s:%d: %s\n", __FILE__, line, text);
+    runs[at]++;
+}
 
 #define COUNT(a) (sizeof(a) / sizeof(*(a)))
 
@@ -124,9 +126,13 @@ int main(void) {
     every_month();
     months_outside();
     month_examples();
+    enum { CHECKS = __COUNTER__ };
+    _Static_assert(CHECKS <= MOST, "more checks than places for them");
     int passed = 0, failed = 0;
-    for (size_t i = 0; i < COUNT(seen); i++) {
-        if (seen[i]) passed += !wrong[i], failed += !!wrong[i];
+    for (int at = 0; at < CHECKS; at++) {
+        if (!runs[at]) printf("FAIL %s: check %d is never reached\n", __FILE__, at);
+        if (runs[at] && !wrong[at]) passed++;
+        else failed++;
     }
     printf("%d passed, %d failed\n", passed, failed);
     return failed != 0;
