@@ -9,9 +9,11 @@ use Rattle.numbers.specs.Rounding.{halfUp}
 use Rattle.marks.specs.declared.days.Day.{Day}
 use Rattle.marks.specs.declared.Survey.{Survey}
 
+-- a planned peak: marks 1 and 3
 abbrev pub isPeak : ℕ → Bool
 isPeak m = eqb m 1 || eqb m 3
 
+-- a capacity hour: marks 2 and 3
 abbrev pub isCapacity : ℕ → Bool
 isCapacity m = eqb m 2 || eqb m 3
 

@@ -11,6 +11,7 @@ use Rattle.numbers.specs.Lists.{tab, sumTo, at, padded}
 unfoldable pub portion : ℕ → ℕ → ℕ → ℕ
 portion v a s = v * a / s
 
+-- weight 1 in every hour
 abbrev pub one : ℕ → ℕ
 one h = 1
 
@@ -34,7 +35,7 @@ taken n chosen w = orElse n (within chosen w) (orElse n (within chosen one) one)
 abbrev pub upTo : ℕ → ℕ → (ℕ → ℕ) → ℕ → ℕ
 upTo v n w h = portion v (sumTo w h) (sumTo w n)
 
--- the share of hour h
+-- the share of hour h: the quotient at s(h) less that at s(h - 1)
 abbrev pub share : ℕ → ℕ → (ℕ → ℕ) → ℕ → ℕ
 share v n w h = upTo v n w (suc h) - upTo v n w h
 
@@ -46,6 +47,7 @@ spread v n w = tab n (share v n w)
 unfoldable pub sharesOver : ℕ → (ℕ → Bool) → List ℕ → List ℕ
 sharesOver v chosen ws = spread v (length ws) (taken (length ws) chosen (at ws))
 
+-- all hours
 abbrev pub every : ℕ → Bool
 every h = true
 
