@@ -1,3 +1,4 @@
+use mathlib.Core.Path.{_∙_}
 use native.Mathlib.Omega.{arith}
 use native.Mathlib.Nat.{mul-le-mul}
 use Prim.Native.Nat.{_≤_}
@@ -25,4 +26,4 @@ worked-spec =
     let counted : c .before .pick-wide .result ≤ 1000 = rw (c .before .pick-wide .ensures) (cond-most (eqb (c .before .before .args .cosine) 0) (omega arith) (l .cosine)) in
     omega (arith, mul-le-mul (mul-le-mul (mul-le-mul (l .amperes) (l .volts)) counted) (c .before .before .pre .1)))
     (λ c κs. search needs)
-    (λ c. rw (← c .before .before .pick-wide .ensures, ← c .before .pick-wide2 .ensures) (c .half-up .ensures)))
+    (λ c. c .half-up .ensures ∙ rw (c .before .before .pick-wide .ensures, c .before .pick-wide2 .ensures)))

@@ -48,7 +48,9 @@ fill-apart-spec =
       search needs,
       under-more (loop .inv .3) (steps .before .before .before .weight-chosen .ensures) (steps .before .before .step .ensures),
       under-more (loop .inv .4) (steps .before .weight-other .ensures) (steps .step2 .ensures),
-      search filled-apart,
+      filled-apart _ _ _ _ (loop .inv .5) (steps .before .before .before .before .loop-test .taken) (loop .inv .2)
+          (loop .inv .3) (steps .before .before .before .weight-chosen .ensures) (steps .before .before .step .ensures) (c .before .gain .ensures)
+          (loop .inv .4) (steps .before .weight-other .ensures) (steps .step2 .ensures) (c .gain2 .ensures),
     ))
     (λ c. search needs)
     (λ c. search filled-end))
