@@ -1,17 +1,15 @@
 -- What holds of the peak rule, for any number of hours from 1 on, any marks and any power. Assumes nothing.
-use mathlib.Core.Path.{_≡_, refl, sym, ap₂, _∙_}
-use mathlib.Core.Bool.{Bool, true, false, cond, not}
+use mathlib.Core.Path.{_≡_, _∙_}
+use mathlib.Core.Bool.{Bool, true, false, cond}
 use mathlib.Core.List.{List}
-use Prim.Native.Nat.{ℕ, _+_, _-_, _*_, _≤_, _<_, min}
+use Prim.Native.Nat.{ℕ, _+_, _-_, _*_, _≤_, _<_}
 use native.Mathlib.Nat.{zero-add, zero-mul, sub-zero, mul-comm, mul-le-mul-left}
 use native.Mathlib.Omega.{arith}
 use native.Mathlib.Decide.{decLt}
-use lib.Dec.{eqb}
-use borrow.Author.Tests.{eqb-true, eqb-false}
-use lib.ListN.{length, List·getD-eq-default}
-use Rattle.numbers.specs.Lists.{tab, sumTo, countTo, sum, at}
+use lib.ListN.{length}
+use Rattle.numbers.specs.Lists.{countTo, sum, at}
 use Rattle.numbers.proofs.Laws.{by-cases, tab-same, at-tab, count-none, count-some}
-use Rattle.sharing.specs.Shares.{one, ones, others, every, taken, share, shares, spread, sharesOver, apartAt, sharesApart}
+use Rattle.sharing.specs.Shares.{one, ones, others, every, taken, share, shares, spread, apartAt, sharesApart}
 use Rattle.sharing.proofs.Laws.{Near, share-same}
 use Rattle.sharing.proofs.Rule.{sum-apart, length-apart, all-hours, shares-tab, chosen-same}
 use Rattle.sharing.proofs.Even.{even-near, even-most, share-none}

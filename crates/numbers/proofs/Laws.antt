@@ -1,16 +1,16 @@
 -- What holds of tables, sums and tests over an index, and of a loop that fills a list from the front. Assumes nothing.
-use mathlib.Core.Path.{_≡_, refl, sym, ap, ap₂, _∙_}
+use mathlib.Core.Path.{_≡_, refl, sym, ap₂, _∙_}
 use mathlib.Core.Logic.{_⊎_, inl, inr, ⊎-elim}
 use mathlib.Core.List.{List, [], _∷_, _++_, append-assoc}
 use mathlib.Core.Bool.{Bool, true, false, cond, _&&_, _||_, false≢true}
 use Prim.Native.Nat.{ℕ, zero, suc, _+_, _-_, _*_, _≤_, _<_}
-use native.Mathlib.Nat.{not-suc-le-zero, le-of-suc-le-suc, eq-or-lt-of-le, le-refl, le-step, le-trans, le-antisymm, sub-zero, zero-sub, suc-sub-suc, add-zero, add-suc, mul-zero, mul-suc, mul-add}
+use native.Mathlib.Nat.{not-suc-le-zero, le-of-suc-le-suc, eq-or-lt-of-le, le-refl, le-step, le-antisymm, sub-zero, zero-sub, suc-sub-suc, add-zero, add-suc, mul-zero, mul-suc, mul-add}
 use native.Mathlib.Numerals.{add-one}
 use native.Mathlib.Omega.{arith}
 use native.Mathlib.Decide.{le-ind, decLt}
 use borrow.Author.Tests.{leb-true, lt-ltb}
 use lib.Dec.{leb, ltb}
-use lib.ListN.{length, getD, drop, set, length-append, length-set, List·getD-append, List·getD-eq-default}
+use lib.ListN.{length, drop, set, length-append, length-set, List·getD-append, List·getD-eq-default}
 use lib.Seq.{drop-cons, set-at, getD-at}
 use Rattle.numbers.specs.Lists.{tab, sumTo, allTo, anyTo, countTo, sum, at, zeros, padded, noneAbove, Filled}
 

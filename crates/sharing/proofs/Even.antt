@@ -1,14 +1,13 @@
 -- Even sharing over the chosen of n hours, of which there is one at least: each has weight 1, and the others 0. Assumes nothing.
 use mathlib.Core.Path.{_≡_, refl, sym, _∙_}
-use mathlib.Core.Bool.{Bool, true, false, cond}
-use Prim.Native.Nat.{ℕ, suc, _+_, _*_, _≤_, _<_}
+use mathlib.Core.Bool.{Bool, true, cond}
+use Prim.Native.Nat.{ℕ, _*_, _≤_, _<_}
 use native.Mathlib.Nat.{mul-zero, mul-one, zero-mul}
 use native.Mathlib.Omega.{arith}
 use borrow.Author.Tests.{ne-eqb}
-use lib.Dec.{eqb}
 use Rattle.numbers.specs.Lists.{sumTo, countTo}
 use Rattle.numbers.proofs.Laws.{by-cases}
-use Rattle.sharing.specs.Shares.{portion, one, within, taken, share}
+use Rattle.sharing.specs.Shares.{portion, one, taken, share}
 use Rattle.sharing.proofs.Laws.{Near, near-share, share-most}
 use Rattle.sharing.proofs.Rule.{even-is, taken-sum}
 

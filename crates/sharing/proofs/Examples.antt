@@ -1,8 +1,7 @@
 -- Sharing over a selection, the stretched past and the limits, by computation. Assumes nothing.
-use Prim.Native.Nat.{ℕ}
 use mathlib.Core.Path.{_≡_, refl}
 use mathlib.Core.Bool.{true, false}
-use mathlib.Core.List.{List, [], _∷_}
+use mathlib.Core.List.{[], _∷_}
 use lib.ListN.{replicate}
 use Rattle.sharing.specs.Shares.{portion, taken, spread, sharesOver, apartAt, sharesApart, shares, stretched, chosenAt, monthFits, weightsFit, rowFits, shareIn}
 

@@ -1,12 +1,11 @@
 -- What holds of a sharing by weights with a sum above 0, for any number of hours. Assumes nothing.
-use mathlib.Core.Path.{_≡_, refl, sym, ap, ap₂, _∙_}
-use mathlib.Core.List.{List}
+use mathlib.Core.Path.{_≡_, sym, ap, ap₂, _∙_}
 use Prim.Native.Nat.{ℕ, zero, suc, _+_, _-_, _*_, _/_, _≤_, _<_}
 use native.Mathlib.Nat.{mul-zero, zero-div, mul-div-cancel, mul-le-mul-left, mul-add, mul-comm, le-add-right, le-trans, le-step, le-refl, le-div-iff-mul-le, div-mul-le-self, div-le-of-le-mul, lt-div-mul-add, add-mul, sub-add-cancel}
 use native.Mathlib.Omega.{arith}
 use native.Mathlib.Decide.{decLt}
 use lib.ListN.{length}
-use Rattle.numbers.specs.Lists.{tab, sumTo, sum, at}
+use Rattle.numbers.specs.Lists.{sumTo, sum, at}
 use Rattle.numbers.proofs.Laws.{sum-tab, sum-up, sum-same, tab-same, length-tab, at-tab}
 use Rattle.sharing.specs.Shares.{portion, upTo, share, spread}
 

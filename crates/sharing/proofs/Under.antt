@@ -1,6 +1,6 @@
 -- A sharing under way: the laws that answer what a turn of a loop asks. Assumes nothing.
-use mathlib.Core.Path.{_≡_, refl, sym, ap₂, _∙_}
-use mathlib.Core.Bool.{Bool, cond, not}
+use mathlib.Core.Path.{_≡_, refl, ap₂, _∙_}
+use mathlib.Core.Bool.{Bool, cond}
 use Prim.Native.Nat.{ℕ, _+_, _-_, _≤_, _<_}
 use native.Mathlib.Nat.{le-trans}
 use native.Mathlib.Numerals.{add-one}
@@ -10,7 +10,7 @@ use lib.Dec.{eqb}
 use Rattle.numbers.specs.Lists.{tab, sumTo, zeros, padded, Filled}
 use Rattle.numbers.proofs.Laws.{cond-most, sum-up, sum-most, filled-more, filled-padded}
 use Rattle.sharing.specs.Shares.{one, others, within, taken, share, spread, sharesOver, apartAt, sharesApart, chosenAt}
-use Rattle.sharing.specs.Underway.{started, stepped, running, Divides, Ready, Gains, Gained, Under, Counts, Others}
+use Rattle.sharing.specs.Underway.{started, stepped, Ready, Gains, Gained, Under, Counts, Others}
 use Rattle.sharing.specs.declared.progress.Progress.{Progress}
 use native.Mathlib.Omega.{arith}
 use Rattle.sharing.proofs.Rule.{taken-sum, taken-some, shares-tab, all-hours}

@@ -1,4 +1,3 @@
-use native.Mathlib.Omega.{arith}
 use borrow.Author.Needs.{needs}
 use Rattle.sharing.specs.Shares.{chosenAt, otherAt}
 use Rattle.sharing.proofs.Under.{under-even, others-count, shared-apart}

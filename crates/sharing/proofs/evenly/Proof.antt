@@ -1,4 +1,3 @@
-use native.Mathlib.Omega.{arith}
 use borrow.Author.Needs.{needs}
 use Rattle.sharing.proofs.Under.{under-even, shared}
 use Rattle.sharing.proofs.evenly.Statement.{statement}

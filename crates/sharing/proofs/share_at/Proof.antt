@@ -1,10 +1,8 @@
-use mathlib.Core.Path.{refl, sym, _∙_}
+use mathlib.Core.Path.{sym, _∙_}
 use Prim.Native.Nat.{_≤_}
-use native.Mathlib.Omega.{arith}
-use borrow.Author.Needs.{needs}
 use borrow.Author.Tests.{le-leb, lt-leb}
 use lib.ListN.{length, List·getD-eq-default}
-use Rattle.sharing.specs.Shares.{shares, every, weightsFit, shareIn}
+use Rattle.sharing.specs.Shares.{shares, weightsFit, shareIn}
 use Rattle.sharing.proofs.Rule.{month-fits, length-shares}
 use Rattle.sharing.proofs.share_at.Statement.{statement}
 use Rattle.sharing.proofs.share_at.Tie as tie

@@ -1,9 +1,7 @@
-use mathlib.Core.Path.{_≡_, refl, sym, ap, _∙_}
-use mathlib.Core.Bool.{false}
+use mathlib.Core.Path.{_≡_}
 use Prim.Native.Nat.{_≤_, _-_}
 use native.Mathlib.Omega.{arith}
-use borrow.Author.Needs.{needs}
-use lib.ListN.{length, length-replicate, length-set}
+use lib.ListN.{length}
 use Rattle.marks.specs.Peak.{Flags}
 use Rattle.marks.proofs.Flag.{flags-none, flags-more}
 use Rattle.marks.proofs.peak.flag_peaks.Statement.{statement}
