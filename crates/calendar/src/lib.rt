@@ -1,7 +1,7 @@
 use numbers::pick;
 use numbers::wide;
 ghost use mathlib.Core.Path.{_≡_};
-ghost use Rattle.calendar.specs.Calendar.{leapYear, isMonth, monthDays, monthHours, openHours, monthNumber, dateIn, nextIn};
+ghost use Rattle.calendar.specs.Calendar.{leapYear, isMonth, monthDays, monthHours, isEnd, isOpen, openHours, monthNumber, dateIn, nextIn};
 
 // A month of a year. Months count from 1, January, to 12, December.
 #[repr(C)]
@@ -46,11 +46,25 @@ pub fn month_hours(d: Date) -> u32
     24 * month_days(d)
 }
 
+// January 3000, which can be open and is never closed.
+fn is_end(d: Date) -> bool
+    ensures { λ r. ⌜ r ≡ isEnd d ⌝ }
+{
+    (d.year == 3000) & (d.month == 1)
+}
+
+// Whether a record can have `d` open: a month that is calculated, or January 3000.
+pub fn is_open(d: Date) -> bool
+    ensures { λ r. ⌜ r ≡ isOpen d ⌝ }
+{
+    is_month(d) | is_end(d)
+}
+
 // T of a month that a record has open. January 3000 follows the last month that is closed, so it has its 744 hours here.
 pub fn open_hours(d: Date) -> u32
     ensures { λ r. ⌜ r ≡ openHours d ⌝ }
 {
-    pick((d.year == 3000) & (d.month == 1), 744, month_hours(d))
+    pick(is_end(d), 744, month_hours(d))
 }
 
 // The number of month `d`, by which months are counted and compared: any two that follow each other are one apart.

@@ -11,4 +11,5 @@ open-hours-spec =
     (tie.spec
     (λ c κs. search needs)
     (λ c κs. search needs)
-    (λ c. rw (← c .before .month-hours .ensures) (c .pick .ensures)))
+    (λ c κs. search needs)
+    (λ c. rw (← c .before .month-hours .ensures, ← c .before .before .is-end .ensures) (c .pick .ensures)))

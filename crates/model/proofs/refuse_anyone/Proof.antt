@@ -1,0 +1,14 @@
+-- `model::refuse_anyone` meets its contract. Assumes nothing.
+use borrow.Author.Needs.{needs}
+use Rattle.model.proofs.refuse_anyone.Statement.{statement}
+use Rattle.model.proofs.refuse_anyone.Tie as tie
+
+pub refuse-anyone-spec : {M : Type 1} → statement M
+refuse-anyone-spec =
+    tie.close
+    (tie.spec
+    (λ c κs. search needs)
+    (λ c κs. search needs)
+    (λ c κs. search needs)
+    (λ c κs. search needs)
+    (λ c. cc))

@@ -1,0 +1,14 @@
+-- `point::events::after_failure` meets its contract. Assumes nothing.
+use borrow.Author.Needs.{needs}
+use Rattle.point.proofs.events.after_failure.Statement.{statement}
+use Rattle.point.proofs.events.after_failure.Tie as tie
+
+pub after-failure-spec : {M : Type 1} → statement M
+after-failure-spec =
+    tie.close
+    (tie.spec
+    (λ c κs. search needs)
+    (λ c. search needs)
+    (λ c κs. search needs)
+    (λ c κs. search needs)
+    (λ c. cc))

@@ -1,0 +1,38 @@
+-- The store (document 01, 'What a point keeps'): 10,416 words, 14 rows of 744.
+use Prim.Native.Nat.{ℕ, _*_}
+use mathlib.Core.Bool.{Bool, cond, _&&_}
+use mathlib.Core.List.{List, _++_}
+use lib.ListN.{length, take, drop}
+use lib.Dec.{eqb, leb}
+use Rattle.numbers.specs.Lists.{zeros, padded, noneAbove}
+
+-- hours as a whole row: 0 from their end on
+abbrev pub asRow : List ℕ → List ℕ
+asRow hours = padded 744 hours
+
+-- THE STORE WITH ROW r MADE xs: the words before the row, xs, and the words after it
+unfoldable pub putRow : ℕ → List ℕ → List ℕ → List ℕ
+putRow r xs store = take (744 * r) store ++ (xs ++ drop 744 (drop (744 * r) store))
+
+-- whether a store has row r, and a row holds so many hours
+unfoldable pub rowTakes : ℕ → ℕ → ℕ → Bool
+rowTakes size r count = eqb size 10416 && leb r 13 && leb count 744
+
+-- the store with hours written into row r, where it takes them
+unfoldable pub writtenIn : ℕ → List ℕ → List ℕ → List ℕ
+writtenIn r hours store = cond (rowTakes (length store) r (length hours)) (putRow r (asRow hours) store) store
+
+-- as an opening leaves it
+abbrev pub emptyStore : List ℕ
+emptyStore = zeros 10416
+
+-- the words of rows 0 to 11, and of rows 12 and 13
+abbrev pub pastRows : List ℕ → List ℕ
+pastRows store = take 8928 store
+
+abbrev pub monthRows : List ℕ → List ℕ
+monthRows store = drop 8928 store
+
+-- NUMBER 45 does not apply: no word above 3,000,000 in rows 0 to 11, or above 1,000,000 in 12 or 13
+unfoldable pub storeFits : List ℕ → Bool
+storeFits store = noneAbove 3000000 (pastRows store) && noneAbove 1000000 (monthRows store)
