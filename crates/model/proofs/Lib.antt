@@ -1,1 +1,4 @@
+pub mod Closes
+pub mod GoesOn
+pub mod Keeps
 pub mod Laws

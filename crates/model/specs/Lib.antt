@@ -1,3 +1,4 @@
 pub mod Refusals
 pub mod Model
 pub mod Opening
+pub mod Sound

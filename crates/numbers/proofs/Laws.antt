@@ -8,10 +8,10 @@ use native.Mathlib.Nat.{not-suc-le-zero, le-of-suc-le-suc, eq-or-lt-of-le, le-re
 use native.Mathlib.Numerals.{add-one}
 use native.Mathlib.Omega.{arith}
 use native.Mathlib.Decide.{le-ind, decLt}
-use borrow.Author.Tests.{leb-true, lt-ltb}
+use borrow.Author.Tests.{leb-true, le-leb, lt-ltb}
 use lib.Dec.{leb, ltb}
 use lib.ListN.{length, drop, set, length-append, length-set, List·getD-append, List·getD-eq-default}
-use lib.Seq.{drop-cons, set-at, getD-at}
+use lib.Seq.{drop-cons, set-at, getD-at, ext-getD}
 use Rattle.numbers.specs.Lists.{tab, sumTo, allTo, anyTo, countTo, sum, at, zeros, padded, noneAbove, Filled}
 
 pub by-cases {ℓ} : {P : Type ℓ} (b : Bool) → (b ≡ true → P) → (b ≡ false → P) → P
@@ -177,6 +177,35 @@ none-above-at limit xs e k =
       | yes l ↦ leb-true _ _ (all-at (λ j. leb (at xs j) limit) (length xs) k e l)
       | no f ↦ rw (List·getD-eq-default xs 0 {n = k} (omega arith)) (omega arith)
     ]
+
+-- a list is the table of its elements
+pub tab-at : (xs : List ℕ) → tab (length xs) (at xs) ≡ xs
+tab-at xs =
+    ext-getD 0 (tab (length xs) (at xs)) xs (length-tab (length xs) (at xs))
+    (λ k l. at-tab (length xs) (at xs) k (rw (length-tab (length xs) (at xs)) at l))
+
+pub sum-at : (xs : List ℕ) → sum xs ≡ sumTo (at xs) (length xs)
+sum-at xs = rw (tab-at xs) at (sum-tab (length xs) (at xs))
+
+-- a test of each index is a test of all; so no word is above the limit where each is at most that
+pub all-from : (f : ℕ → Bool) (n : ℕ) → ((k : ℕ) → k < n → f k ≡ true) → allTo f n ≡ true
+all-from f zero e = refl
+all-from f (suc n) e = rw (all-from f n (λ k l. e k (le-step l)), e n (le-refl _))
+
+pub none-above-from : (limit : ℕ) (xs : List ℕ) → ((k : ℕ) → k < length xs → at xs k ≤ limit) → noneAbove limit xs ≡ true
+unfolding noneAbove
+none-above-from limit xs e = all-from (λ k. leb (at xs k) limit) (length xs) (λ k l. le-leb _ _ (e k l))
+
+-- words of 0 after a list change no word of it, and past the end of both there is 0
+pub at-zeros : (n k : ℕ) → at (zeros n) k ≡ 0
+at-zeros zero k = refl
+at-zeros (suc n) zero = refl
+at-zeros (suc n) (suc k) = at-zeros n k
+
+pub at-more : (xs : List ℕ) (n k : ℕ) → at (xs ++ zeros n) k ≡ at xs k
+at-more [] n k = at-zeros n k
+at-more (x ∷ xs) n zero = refl
+at-more (x ∷ xs) n (suc k) = at-more xs n k
 
 -- A loop that fills a list d from the front, one store a turn: before the first turn, after one more, and at the end.
 pub filled-none : (f : ℕ → ℕ) (d : List ℕ) → Filled f d d 0

@@ -47,6 +47,10 @@ zeroRecord =
       total = kwh 0;
     }
 
+-- in service, with no run, denial or fault
+abbrev pub freshService : Service
+freshService = record { run = 0; serving = 1; denials = 0; fault = 0 }
+
 -- as an opening leaves it: the point is in service, the named month is open, all else is 0 or missing
 abbrev pub freshRecord : Contract → Date → Record
 freshRecord c d =
@@ -54,7 +58,7 @@ freshRecord c d =
       opened = 1;
       contract = c;
       date = d;
-      service = record { run = 0; serving = 1; denials = 0; fault = 0 };
+      service = freshService;
       past = noPast;
       readings = noReadings;
       total = kwh 0;

@@ -8,7 +8,8 @@ use lib.ListN.{length, take, drop, replicate, length-replicate}
 use lib.Seq.{take-at, drop-at}
 use Rattle.numbers.specs.Lists.{zeros, padded, noneAbove}
 use Rattle.rows.specs.Store.{asRow, putRow, rowTakes, writtenIn, storeFits}
-use Rattle.rows.proofs.Laws.{at-zeros, none-above-from}
+use Rattle.numbers.proofs.Laws.{at-zeros, none-above-from}
+
 
 -- each limit, and one outside it
 pub limits :

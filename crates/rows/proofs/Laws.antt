@@ -12,40 +12,14 @@ use lib.Dec.{eqb, leb}
 use lib.ListN.{length, take, drop, length-append, length-take, length-drop, length-replicate, List·getD-append}
 use lib.Seq.{ext-getD, getD-take, getD-drop, getD-append-add, take-at, drop-at, length-take-le, take-all}
 use Rattle.numbers.specs.Lists.{tab, allTo, at, zeros, padded, noneAbove, Filled}
-use Rattle.numbers.proofs.Laws.{both, length-tab, at-tab, none-above-at, filled-padded}
+use Rattle.numbers.proofs.Laws.{both, tab-at, none-above-at, none-above-from, at-zeros, at-more, filled-padded}
 use Rattle.rows.specs.Store.{asRow, putRow, rowTakes, writtenIn, emptyStore, storeFits}
-
--- a list is the table of its elements
-pub tab-at : (xs : List ℕ) → tab (length xs) (at xs) ≡ xs
-tab-at xs =
-    ext-getD 0 (tab (length xs) (at xs)) xs (length-tab (length xs) (at xs))
-    (λ k l. at-tab (length xs) (at xs) k (rw (length-tab (length xs) (at xs)) at l))
 
 -- a list copied over the front of zeros
 pub copied : {d l : List ℕ} (m : ℕ) (xs : List ℕ) → Filled (at xs) d l (length xs) → d ≡ zeros m → l ≡ padded m xs
 copied m xs filled e = rw tab-at at (filled-padded m filled e)
 
--- a test of each index is a test of all; so no word is above the limit where each is at most that
-all-from : (f : ℕ → Bool) (n : ℕ) → ((k : ℕ) → k < n → f k ≡ true) → allTo f n ≡ true
-all-from f zero e = refl
-all-from f (suc n) e = rw (all-from f n (λ k l. e k (le-step l)), e n (le-refl _))
-
-pub none-above-from : (limit : ℕ) (xs : List ℕ) → ((k : ℕ) → k < length xs → at xs k ≤ limit) → noneAbove limit xs ≡ true
-unfolding noneAbove
-none-above-from limit xs e = all-from (λ k. leb (at xs k) limit) (length xs) (λ k l. le-leb _ _ (e k l))
-
--- words of 0 after a list change no word of it, and past the end of both there is 0
-pub at-zeros : (n k : ℕ) → at (zeros n) k ≡ 0
-at-zeros zero k = refl
-at-zeros (suc n) zero = refl
-at-zeros (suc n) (suc k) = at-zeros n k
-
-at-more : (xs : List ℕ) (n k : ℕ) → at (xs ++ zeros n) k ≡ at xs k
-at-more [] n k = at-zeros n k
-at-more (x ∷ xs) n zero = refl
-at-more (x ∷ xs) n (suc k) = at-more xs n k
-
--- so hours keep their words as a row
+-- hours keep their words as a row
 pub at-row : (hours : List ℕ) (k : ℕ) → at (asRow hours) k ≡ at hours k
 unfolding padded
 at-row hours k = at-more hours (744 - length hours) k

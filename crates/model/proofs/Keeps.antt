@@ -1,0 +1,281 @@
+-- A point goes on: each accepted call that does not close the month leaves a record that passes number 2 and a store that passes 1 and 45. Assumes nothing.
+use Prim.Native.Nat.{ℕ, _+_, _*_, _≤_, _<_}
+use mathlib.Core.Path.{_≡_, refl, sym, _∙_}
+use mathlib.Core.Bool.{Bool, true, false, not, cond, _&&_, _||_, true≢false}
+use mathlib.Core.List.{List, []}
+use native.Mathlib.Omega.{arith}
+use borrow.Author.Tests.{eqb-true, eqb-false, le-leb, ltb-false, not-false}
+use lib.Dec.{eqb, leb, ltb, lit≤}
+use lib.ListN.{length}
+use Rattle.numbers.specs.Lists.{noneAbove}
+use Rattle.numbers.proofs.Laws.{by-cases, first-of, cond-most}
+use Rattle.calendar.specs.declared.Date.{Date}
+use Rattle.calendar.specs.Calendar.{isMonth, isOpen, isEnd, monthNumber}
+use Rattle.calendar.proofs.Laws.{Limits, limits}
+use Rattle.record.specs.declared.Service.{Service}
+use Rattle.record.specs.declared.Readings.{Readings}
+use Rattle.record.specs.declared.Record.{Record}
+use Rattle.record.specs.Record.{isSet, notGiven, givenAs, withService, withReadings, withServing, withDenials, withBilling, withControl, withFirst, withSecond}
+use Rattle.record.specs.Valid.{allOf, isMonthNumber, readingTests, volumeLimit, valid}
+use Rattle.record.proofs.Laws.{Valid, valid-parts, valid-from, ServiceFits, service-parts, service-from, ReadingsFit, readings-parts, readings-from, missing-fits, hours-fit, volume-fits}
+use Rattle.rows.specs.Store.{asRow, putRow, storeFits}
+use Rattle.rows.proofs.Laws.{length-row, length-put, put-fits-month}
+use Rattle.rules.specs.Calls.{Call, billingHours, controlHours, billingVolume, controlVolume, neighbour, failure, admission, denial, permission, closing, isClosing, isFault}
+use Rattle.model.specs.Refusals.{isBarred, notMonth, hourAbove, volumeAbove, sourceGiven, isSource, ownRefusal}
+use Rattle.model.specs.Model.{State, state, discarded, withSource, isRepeat, afterFailure, oneDenial, accept, refusal, accepted}
+use Rattle.model.specs.Sound.{Fits}
+use Rattle.model.proofs.Laws.{skip, Passed, passed, Read, read, month-most}
+use lib.Dec.{lit<}
+
+-- what the acceptance of a call tells
+pub own : (s : State) (c : Call) → accepted s c ≡ true → Passed (length (s .store)) (s .point) (ownRefusal (s .point) (s .store) c)
+unfolding accepted refusal
+own s c t = passed (eqb-true (refusal s c) 0 t)
+
+-- the open month is one that is calculated
+pub open-month : (r : Record) → valid r ≡ true → eqb (r .date .year) 3000 ≡ false → isMonth (r .date) ≡ true
+open-month r v f = first-of (isMonth (r .date)) (isEnd (r .date)) (valid-parts r v .month) (rw f)
+
+-- a record with other readings, and with another service
+with-readings : (r : Record) (g : Readings) → Valid r → ReadingsFit g (r .contract) (volumeLimit (r .date)) → valid (withReadings r g) ≡ true
+with-readings r g v f =
+    valid-from (withReadings r g)
+    (record {
+      opened = v .opened;
+      contract = v .contract;
+      month = v .month;
+      service = v .service;
+      past = v .past;
+      readings = readings-from g (r .contract) (volumeLimit (r .date)) f;
+      total = v .total;
+    })
+
+with-service : (r : Record) (s : Service) → Valid r → ServiceFits s (r .date) → valid (withService r s) ≡ true
+with-service r s v f =
+    valid-from (withService r s)
+    (record {
+      opened = v .opened;
+      contract = v .contract;
+      month = v .month;
+      service = service-from s (r .date) f;
+      past = v .past;
+      readings = v .readings;
+      total = v .total;
+    })
+
+-- the readings and the service that a record has
+old-readings : (r : Record) → Valid r → ReadingsFit (r .readings) (r .contract) (volumeLimit (r .date))
+old-readings r v = readings-parts (r .readings) (r .contract) (volumeLimit (r .date)) (v .readings)
+
+old-service : (r : Record) → Valid r → ServiceFits (r .service) (r .date)
+old-service r v = service-parts (r .service) (r .date) (v .service)
+
+-- hours written into row 12 or 13
+written : (s : State) (r : Record) (row : ℕ) (hs : List ℕ) → Fits s → valid r ≡ true → length (r .past .years) ≡ 12 → 12 ≤ row → row ≤ 13
+    → length hs ≤ 744 → noneAbove 1000000 hs ≡ true → Fits (state r (putRow row (asRow hs) (s .store)))
+written s r row hs f v y low high l n = record {
+  record-fits = v;
+  twelve = y;
+  words = length-put row (asRow hs) (s .store) (f .words) high (length-row hs l);
+  store-fits = put-fits-month row hs (s .store) (f .words) (f .store-fits) l low high n;
+}
+
+-- the store as it was
+kept : (s : State) (r : Record) → Fits s → valid r ≡ true → length (r .past .years) ≡ 12 → Fits (state r (s .store))
+kept s r f v y = record { record-fits = v; twelve = y; words = f .words; store-fits = f .store-fits }
+
+pub no-hours : noneAbove 1000000 [] ≡ true
+unfolding noneAbove
+no-hours = refl
+
+-- a discarded reading
+discards : (s : State) → Fits s → Fits (discarded s)
+discards s f =
+    let r = s .point in
+    let v = valid-parts r (f .record-fits) in
+    let g = old-readings r v in
+    written s (withReadings r (withBilling (r .readings) notGiven)) 12 [] f
+    (with-readings r (withBilling (r .readings) notGiven) v
+    (record { billing = missing-fits true (eqb (r .contract .billing) 2) (volumeLimit (r .date)); control = g .control; first = g .first; second = g .second }))
+    (f .twelve) (lit≤ tt) (lit≤ tt) (lit≤ tt) no-hours
+
+keep-billing-hours : (s : State) (hs : List ℕ) → Fits s → accepted s (billingHours hs) ≡ true → Fits (accept s (billingHours hs))
+unfolding ownRefusal accept
+keep-billing-hours s hs f t =
+    let r = s .point in
+    let o = own s (billingHours hs) t in
+    let q = read (o .on) in
+    let v = valid-parts r (f .record-fits) in
+    let g = old-readings r v in
+    written s _ 12 hs f
+    (with-readings r (withBilling (r .readings) (givenAs 0)) v
+    (record { billing = hours-fit (eqb (r .contract .billing) 2) (volumeLimit (r .date)); control = g .control; first = g .first; second = g .second }))
+    (f .twelve) (lit≤ tt) (lit≤ tt) (month-most r hs (f .record-fits) (q .long)) (not-false _ (q .small))
+
+-- a control meter of a kind that the contract has
+control-there : (k n : ℕ) → not (eqb k n) ≡ false → 0 < n → not (eqb k 0) ≡ true
+control-there k n e l =
+    by-cases (eqb k 0)
+    (λ t. absurd (omega (arith, eqb-true k 0 t, eqb-true k n (not-false _ e))))
+    (λ f. rw f)
+
+keep-control-hours : (s : State) (hs : List ℕ) → Fits s → accepted s (controlHours hs) ≡ true → Fits (accept s (controlHours hs))
+unfolding ownRefusal accept
+keep-control-hours s hs f t =
+    let r = s .point in
+    let o = own s (controlHours hs) t in
+    let q = read (o .on) in
+    let v = valid-parts r (f .record-fits) in
+    let g = old-readings r v in
+    written s _ 13 hs f
+    (with-readings r (withControl (r .readings) (givenAs 0)) v
+    (record {
+      billing = g .billing;
+      control = rw (control-there (r .contract .control) 1 (q .meter) (lit< tt)) (hours-fit (eqb (r .contract .control) 2) (volumeLimit (r .date)));
+      first = g .first;
+      second = g .second;
+    }))
+    (f .twelve) (lit≤ tt) (lit≤ tt) (month-most r hs (f .record-fits) (q .long)) (not-false _ (q .small))
+
+keep-billing-volume : (s : State) (v : ℕ) → Fits s → accepted s (billingVolume v) ≡ true → Fits (accept s (billingVolume v))
+unfolding ownRefusal accept
+keep-billing-volume s v f t =
+    let r = s .point in
+    let q = read (own s (billingVolume v) t .on) in
+    let p = valid-parts r (f .record-fits) in
+    let g = old-readings r p in
+    kept s _ f
+    (with-readings r (withBilling (r .readings) (givenAs v)) p
+    (record {
+      billing = rw (not-false (eqb (r .contract .billing) 2) (q .meter)) (volume-fits v (volumeLimit (r .date)) (ltb-false _ v (q .small)));
+      control = g .control;
+      first = g .first;
+      second = g .second;
+    }))
+    (f .twelve)
+
+keep-control-volume : (s : State) (v : ℕ) → Fits s → accepted s (controlVolume v) ≡ true → Fits (accept s (controlVolume v))
+unfolding ownRefusal accept
+keep-control-volume s v f t =
+    let r = s .point in
+    let q = read (own s (controlVolume v) t .on) in
+    let p = valid-parts r (f .record-fits) in
+    let g = old-readings r p in
+    kept s _ f
+    (with-readings r (withControl (r .readings) (givenAs v)) p
+    (record {
+      billing = g .billing;
+      control =
+          rw (control-there (r .contract .control) 2 (q .meter) (lit< tt), not-false (eqb (r .contract .control) 2) (q .meter))
+          (volume-fits v (volumeLimit (r .date)) (ltb-false _ v (q .small)));
+      first = g .first;
+      second = g .second;
+    }))
+    (f .twelve)
+
+keep-neighbour : (s : State) (source v : ℕ) → Fits s → accepted s (neighbour source v) ≡ true → Fits (accept s (neighbour source v))
+unfolding ownRefusal accept
+keep-neighbour s source v f t =
+    let r = s .point in
+    let q = read (own s (neighbour source v) t .on) in
+    let p = valid-parts r (f .record-fits) in
+    let g = old-readings r p in
+    let fits = volume-fits v (volumeLimit (r .date)) (ltb-false _ v (q .small)) in
+    by-cases (eqb source 1)
+    (λ y.
+    rw y
+    (kept s _ f
+    (with-readings r (withFirst (r .readings) (givenAs v)) p (record { billing = g .billing; control = g .control; first = fits; second = g .second }))
+    (f .twelve)))
+    (λ n.
+    rw n
+    (kept s _ f
+    (with-readings r (withSecond (r .readings) (givenAs v)) p (record { billing = g .billing; control = g .control; first = g .first; second = fits }))
+    (f .twelve)))
+
+-- the month of a fault
+month-number : (d : Date) → isMonth d ≡ true → eqb (monthNumber d) 0 || isMonthNumber (monthNumber d) ≡ true
+unfolding monthNumber
+month-number d m =
+    let l = limits d m in
+    by-cases (eqb (d .year * 12 + d .month) 0) (λ t. rw t)
+    (λ f. rw (f, le-leb 24169 (d .year * 12 + d .month) (omega arith), le-leb (d .year * 12 + d .month) 36000 (omega arith)))
+
+-- what holds of both sides of a choice holds of it
+choice : {A : Type 0} (P : A → Type 0) (b : Bool) {x y : A} → P x → P y → P (cond b x y)
+choice P true p q = p
+choice P false p q = q
+
+keep-failure : (s : State) (reason : ℕ) → Fits s → accepted s (failure reason) ≡ true → Fits (accept s (failure reason))
+unfolding accept
+keep-failure s reason f t =
+    let r = s .point in
+    let o = own s (failure reason) t in
+    let v = valid-parts r (f .record-fits) in
+    let h = old-service r v in
+    let m = open-month r (o .sound) (o .goes) in
+    discards _
+    (kept s _ f
+    (with-service r (afterFailure (r .service) (r .date) reason) v
+    (record {
+      run = cond-most (isFault reason && isRepeat (r .service .fault) (monthNumber (r .date))) (lit≤ tt) (h .run);
+      serving = lit≤ tt;
+      denials = h .denials;
+      month = choice (λ (n : ℕ). eqb n 0 || isMonthNumber n ≡ true) (isFault reason) (month-number (r .date) m) (h .month);
+      before = cond-most (isFault reason) (omega arith) (h .before);
+    }))
+    (f .twelve))
+
+keep-admission : (s : State) → Fits s → accepted s admission ≡ true → Fits (accept s admission)
+unfolding accept
+keep-admission s f t =
+    let r = s .point in
+    let v = valid-parts r (f .record-fits) in
+    let h = old-service r v in
+    kept s _ f
+    (with-service r (withServing (r .service) 1) v (record { run = h .run; serving = lit≤ tt; denials = h .denials; month = h .month; before = h .before }))
+    (f .twelve)
+
+keep-denial : (s : State) → Fits s → accepted s denial ≡ true → Fits (accept s denial)
+unfolding ownRefusal accept
+keep-denial s f t =
+    let r = s .point in
+    let q = skip (lit< tt) (own s denial t .on) .0 in
+    let v = valid-parts r (f .record-fits) in
+    let h = old-service r v in
+    let one : Fits (oneDenial s) =
+        kept s _ f
+        (with-service r (withDenials (r .service) (r .service .denials + 1)) v
+        (record {
+          run = h .run;
+          serving = h .serving;
+          denials = omega (arith, h .denials, eqb-false (r .service .denials) 2 q);
+          month = h .month;
+          before = h .before;
+        }))
+        (f .twelve) in
+    choice Fits (eqb (r .service .denials) 1) (discards (oneDenial s) one) one
+
+keep-permission : (s : State) → Fits s → accepted s permission ≡ true → Fits (accept s permission)
+unfolding accept
+keep-permission s f t =
+    let r = s .point in
+    let v = valid-parts r (f .record-fits) in
+    let h = old-service r v in
+    kept s _ f
+    (with-service r (withDenials (r .service) 0) v (record { run = h .run; serving = h .serving; denials = lit≤ tt; month = h .month; before = h .before }))
+    (f .twelve)
+
+-- A POINT GOES ON, while the month is not closed
+pub keeps : (s : State) (c : Call) → isClosing c ≡ false → Fits s → accepted s c ≡ true → Fits (accept s c)
+unfolding isClosing
+keeps s (billingHours hs) e f t = keep-billing-hours s hs f t
+keeps s (controlHours hs) e f t = keep-control-hours s hs f t
+keeps s (billingVolume v) e f t = keep-billing-volume s v f t
+keeps s (controlVolume v) e f t = keep-control-volume s v f t
+keeps s (neighbour source v) e f t = keep-neighbour s source v f t
+keeps s (failure reason) e f t = keep-failure s reason f t
+keeps s admission e f t = keep-admission s f t
+keeps s denial e f t = keep-denial s f t
+keeps s permission e f t = keep-permission s f t
+keeps s (closing marks buffer) e f t = absurd (true≢false e)
