@@ -43,9 +43,20 @@ openHours d = cond (isEnd d) 744 (monthHours d)
 unfoldable pub monthNumber : Date → ℕ
 monthNumber d = d .year * 12 + d .month
 
+-- the number of a month in 2014 to 2999
+abbrev pub isMonthNumber : ℕ → Bool
+isMonthNumber n = leb 24169 n && leb n 36000
+
+-- of the month whose number is n: its year, and the place of the calendar month, 0 for January
+abbrev pub yearOf : ℕ → ℕ
+yearOf n = (n - 1) / 12
+
+abbrev pub placeOf : ℕ → ℕ
+placeOf n = (n - 1) % 12
+
 -- the month whose number is n
 unfoldable pub dateOf : ℕ → Date
-dateOf n = record { year = (n - 1) / 12; month = (n - 1) % 12 + 1 }
+dateOf n = record { year = yearOf n; month = placeOf n + 1 }
 
 -- the same from January 2014 to January 3000; else year 0 and month 0
 unfoldable pub dateIn : ℕ → Date

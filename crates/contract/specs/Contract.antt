@@ -1,6 +1,6 @@
 -- The contract of a point (document 01, 'Power and the cable formula' and 'What a point keeps').
 use Prim.Native.Nat.{ℕ}
-use mathlib.Core.Bool.{Bool, cond, _&&_, _||_}
+use mathlib.Core.Bool.{Bool, cond, _||_}
 use mathlib.Core.List.{List}
 use lib.Dec.{eqb, leb}
 use Rattle.units.specs.declared.Kw.{Kw}

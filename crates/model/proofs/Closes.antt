@@ -11,7 +11,7 @@ use lib.Seq.{getD-set-same, getD-set-other, length-take-le}
 use Rattle.numbers.specs.Lists.{at, allTo, noneAbove}
 use Rattle.numbers.proofs.Laws.{by-cases, both, first-of, cond-most, all-at, all-from}
 use Rattle.calendar.specs.declared.Date.{Date}
-use Rattle.calendar.specs.Calendar.{isMonth, isEnd, monthDays, monthHours, openHours, monthNumber, dateOf, nextMonth}
+use Rattle.calendar.specs.Calendar.{isMonth, isEnd, monthDays, monthHours, openHours, monthNumber, isMonthNumber, yearOf, placeOf, dateOf, nextMonth}
 use Rattle.calendar.proofs.Laws.{limits, days-low, days-high, open-next, number-next}
 use Rattle.sharing.specs.Shares.{rowPart}
 use Rattle.marks.specs.Marks.{high, crowded, unmatched}
@@ -21,15 +21,15 @@ use Rattle.record.specs.declared.Past.{Past}
 use Rattle.record.specs.declared.Reading.{Reading}
 use Rattle.record.specs.declared.Record.{Record}
 use Rattle.record.specs.Record.{isSet, noReadings, withRun}
-use Rattle.record.specs.Valid.{allOf, isMonthNumber, contractTests, yearFits, readingTests, volumeLimit, valid}
+use Rattle.record.specs.Valid.{allOf, contractTests, yearFits, readingTests, volumeLimit, valid}
 use Rattle.record.proofs.Laws.{each, Valid, valid-parts, valid-from, service-parts, service-from, PastFits, past-parts, past-from, readings-parts, none-fit}
 use Rattle.rows.specs.Store.{asRow, putRow, storeFits}
 use Rattle.rows.proofs.Laws.{length-row, length-put, put-fits-month, put-fits-past, row-part-fits, row-part-fits-month}
 use Rattle.rules.specs.Calls.{Call, closing}
-use Rattle.rules.specs.Rules.{Measured, missing, hourly, whole, PastHours, none, hours, Inputs, Outcome, hoursIn, rules, metered}
+use Rattle.rules.specs.Rules.{Measured, missing, hourly, whole, PastHours, none, some, Inputs, Outcome, hoursIn, rules, becomesPast}
 use Rattle.rules.specs.Right.{Right, HoursFit, MeasuredFits, PastHoursFit, Sane}
 use Rattle.rules.proofs.Sums.{rules-right}
-use Rattle.model.specs.Refusals.{settlement, ownRefusal}
+use Rattle.model.specs.Refusals.{ownRefusal}
 use Rattle.model.specs.Model.{State, measuredIn, slot, lastYear, hoursOf, pastIn, inputs, pastAfter, runAfter, rowsAfter, closedWith, accept, accepted}
 use Rattle.model.specs.Sound.{Fits, Room}
 use Rattle.model.proofs.Laws.{skip}
@@ -168,7 +168,7 @@ latest-closed d m =
     (lt-ltb (monthNumber d) (monthNumber (nextMonth d)) (omega (arith, number-next d m)))
 
 row-closed : (years : List ℕ) (d : Date) → isMonth d ≡ true → at years (slot d) ≡ d .year
-    → eqb (monthNumber d) 0 || eqb (at years ((monthNumber d - 1) % 12)) ((monthNumber d - 1) / 12) ≡ true
+    → eqb (monthNumber d) 0 || eqb (at years (placeOf (monthNumber d))) (yearOf (monthNumber d)) ≡ true
 unfolding monthNumber
 row-closed years d m there =
     let l = limits d m in
@@ -239,8 +239,8 @@ closes s marks buffer f t room =
     let right = rules-right (inputs s marks) sane in
     let u = rules (inputs s marks) in
     let old : Stored (s .store) = record { words = f .words; fits = f .store-fits } in
-    let store : Stored (rowsAfter (metered u) (u .hours) d (s .store)) =
-        by-cases (metered u)
+    let store : Stored (rowsAfter (becomesPast u) (u .hours) d (s .store)) =
+        by-cases (becomesPast u)
         (λ y. rw y (filed (slot d) (u .hours) (s .store) (slot-row d m) (omega (arith, right .long, month-hours d m, days-high d)) (right .small y) old))
         (λ n. rw n old) in
     let both-clear = cleared 13 _ (lit≤ tt) (lit≤ tt) (cleared 12 _ (lit≤ tt) (lit≤ tt) store) in
@@ -252,23 +252,23 @@ closes s marks buffer f t room =
             contract = v .contract;
             month = open-next d m;
             service =
-                service-from (withRun (r .service) (runAfter (metered u) (r .service .run))) (nextMonth d)
+                service-from (withRun (r .service) (runAfter (becomesPast u) (r .service .run))) (nextMonth d)
                 (record {
-                  run = cond-most (metered u) (lit≤ tt) (omega (arith, room .run));
+                  run = cond-most (becomesPast u) (lit≤ tt) (omega (arith, room .run));
                   serving = h .serving;
                   denials = h .denials;
                   month = h .month;
                   before = omega (arith, h .before, number-next d m);
                 });
             past =
-                past-from (pastAfter (metered u) (r .past) d) (nextMonth d)
-                (by-cases (metered u)
+                past-from (pastAfter (becomesPast u) (r .past) d) (nextMonth d)
+                (by-cases (becomesPast u)
                 (λ y. rw y (past-kept (r .past) d m (f .twelve) (past-parts (r .past) d (v .past))))
                 (λ n. rw n (past-same (r .past) d m (past-parts (r .past) d (v .past)))));
             readings = none-fit (r .contract) (volumeLimit (nextMonth d));
             total = le-leb _ _ (room .total);
           });
-      twelve = by-cases (metered u) (λ y. rw y (length-set (r .past .years) (slot d) (d .year) ∙ f .twelve)) (λ n. rw n (f .twelve));
+      twelve = by-cases (becomesPast u) (λ y. rw y (length-set (r .past .years) (slot d) (d .year) ∙ f .twelve)) (λ n. rw n (f .twelve));
       words = both-clear .words;
       store-fits = both-clear .fits;
     }

@@ -23,7 +23,7 @@ use Rattle.record.proofs.Laws.{all, valid-from, service-from, past-from, none-f
 use Rattle.rows.specs.Store.{emptyStore}
 use Rattle.rows.proofs.Laws.{fits-empty}
 use Rattle.rules.specs.Calls.{Opening, Call, billingHours, controlHours, billingVolume, controlVolume, neighbour, failure, admission, denial, permission, closing, isClosing, isFault}
-use Rattle.rules.specs.Rules.{Outcome, hoursIn, rules, metered}
+use Rattle.rules.specs.Rules.{Outcome, hoursIn, rules, becomesPast}
 use Rattle.rules.proofs.Sums.{rules-right}
 use Rattle.model.specs.Refusals.{openRefusal}
 use Rattle.model.specs.Model.{State, discarded, oneDenial, isRepeat, inputs, closedWith, accept, accepted}
@@ -139,7 +139,7 @@ at-closing s marks buffer sound t =
     } in
     record {
       fits = closes s marks buffer (sound .fits) t room;
-      run = rw n (cond-most (metered u) zero-le (omega (arith, sound .run, l .0)));
+      run = rw n (cond-most (becomesPast u) zero-le (omega (arith, sound .run, l .0)));
       total = rw n (omega (arith, sound .total, l .0, right .most));
     }
 

@@ -10,13 +10,13 @@ use lib.ListN.{length}
 use Rattle.numbers.specs.Lists.{noneAbove}
 use Rattle.numbers.proofs.Laws.{by-cases, first-of, cond-most}
 use Rattle.calendar.specs.declared.Date.{Date}
-use Rattle.calendar.specs.Calendar.{isMonth, isOpen, isEnd, monthNumber}
+use Rattle.calendar.specs.Calendar.{isMonth, isEnd, monthNumber, isMonthNumber}
 use Rattle.calendar.proofs.Laws.{Limits, limits}
 use Rattle.record.specs.declared.Service.{Service}
 use Rattle.record.specs.declared.Readings.{Readings}
 use Rattle.record.specs.declared.Record.{Record}
 use Rattle.record.specs.Record.{isSet, notGiven, givenAs, withService, withReadings, withServing, withDenials, withBilling, withControl, withFirst, withSecond}
-use Rattle.record.specs.Valid.{allOf, isMonthNumber, readingTests, volumeLimit, valid}
+use Rattle.record.specs.Valid.{volumeLimit, valid}
 use Rattle.record.proofs.Laws.{Valid, valid-parts, valid-from, ServiceFits, service-parts, service-from, ReadingsFit, readings-parts, readings-from, missing-fits, hours-fit, volume-fits}
 use Rattle.rows.specs.Store.{asRow, putRow, storeFits}
 use Rattle.rows.proofs.Laws.{length-row, length-put, put-fits-month}

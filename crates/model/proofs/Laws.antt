@@ -22,7 +22,7 @@ use Rattle.rules.specs.Calls.{Opening, Call, isClosing, bufferOf}
 use Rattle.rules.specs.Rules.{noFigures}
 use Rattle.model.specs.declared.Answer.{Answer}
 use Rattle.model.specs.Refusals.{refuse, anyone, readers, notMonth, hourAbove, openRefusal}
-use Rattle.model.specs.Model.{State, state, accept, refusal, accepted, leaves, quiet, figuresOf, handed, answer, hands, Does}
+use Rattle.model.specs.Model.{State, state, accept, refusal, accepted, leaves, quiet, figuresOf, hoursOut, answer, bufferAfter, Does}
 use Rattle.model.specs.Opening.{opens, opened, openLeaves, openAnswer, Opens}
 
 -- no number: the test did not apply, and the rest of the list gives none either
@@ -68,20 +68,20 @@ month-most r hs v f =
 
 -- a call that is refused, with a number that is not 0
 pub refused : (s : State) (c : Call) {number : ℕ} {a : Answer} → number ≡ refusal s c → number ≢ 0 → a ≡ quiet number (s .point) → Does s c a (s .store) (bufferOf c)
-unfolding answer leaves hands accepted
+unfolding answer leaves bufferAfter accepted
 refused s c {number} e n q =
     let f : eqb (refusal s c) 0 ≡ false = rw e at (ne-eqb number 0 n) in
-    record { answered = q ∙ rw (f, e); left = rw f; handed-out = rw f }
+    record { answered = q ∙ rw (f, e); left = rw f; buffered = rw f }
 
 -- a call that is accepted, and has no hour buffer
 pub done : (s : State) (c : Call) {number : ℕ} {a : Answer} {after : List ℕ}
-    → number ≡ refusal s c → number ≡ 0 → figuresOf s c ≡ noFigures → handed s c ≡ [] → a ≡ quiet 0 (accept s c .point) → after ≡ accept s c .store
+    → number ≡ refusal s c → number ≡ 0 → figuresOf s c ≡ noFigures → hoursOut s c ≡ [] → a ≡ quiet 0 (accept s c .point) → after ≡ accept s c .store
     → Does s c a after []
-unfolding answer leaves hands accepted
+unfolding answer leaves bufferAfter accepted
 done s c {number} e z f h q l =
     let n : refusal s c ≡ 0 = sym e ∙ z in
     let t : eqb (refusal s c) 0 ≡ true = eq-eqb _ 0 n in
-    record { answered = q ∙ rw (t, f, n); left = l ∙ rw t; handed-out = rw (t, h) }
+    record { answered = q ∙ rw (t, f, n); left = l ∙ rw t; buffered = rw (t, h) }
 
 -- what an opening asks for where it is accepted
 pub record Allowed (words : ℕ) (o : Opening) : Type 0 where

@@ -15,10 +15,10 @@ use Rattle.record.specs.declared.Reading.{Reading}
 use Rattle.record.specs.declared.Readings.{Readings}
 use Rattle.record.specs.declared.Record.{Record}
 use Rattle.record.specs.Record.{isSet, kwh, notGiven, givenAs, noReadings, withService, withReadings, withServing, withDenials, withRun, withBilling, withControl, withFirst, withSecond}
-use Rattle.rows.specs.Store.{asRow, putRow}
+use Rattle.rows.specs.Store.{asRow, withHours, withoutHours}
 use Rattle.rules.specs.declared.Figures.{Figures}
-use Rattle.rules.specs.Calls.{Call, billingHours, controlHours, billingVolume, controlVolume, neighbour, failure, admission, denial, permission, closing, isClosing, bufferOf, isFault}
-use Rattle.rules.specs.Rules.{Measured, missing, hourly, whole, PastHours, none, hours, Inputs, Outcome, missedOf, neighbourOf, rules, metered, figures, noFigures}
+use Rattle.rules.specs.Calls.{Call, billingHours, controlHours, billingVolume, controlVolume, neighbour, failure, admission, denial, permission, closing, bufferOf, isFault}
+use Rattle.rules.specs.Rules.{Measured, missing, hourly, whole, Stated, unstated, stated, PastHours, none, some, Inputs, Outcome, countedOf, neighbourOf, rules, becomesPast, figures, noFigures}
 use Rattle.model.specs.declared.Answer.{Answer}
 use Rattle.model.specs.Refusals.{anyone, ownRefusal}
 
@@ -30,11 +30,10 @@ pub record State : Type 0 where
 abbrev pub state : Record → List ℕ → State
 state r store = record { point = r; store = store }
 
--- READINGS: given, and the volume of an integral or neighbour one; readings are written only into their own row
 -- this month's billing reading is no longer given, and its row 12 and volume become 0
 abbrev pub discarded : State → State
 discarded s =
-    state (withReadings (s .point) (withBilling (s .point .readings) notGiven)) (putRow 12 (asRow []) (s .store))
+    state (withReadings (s .point) (withBilling (s .point .readings) notGiven)) (withoutHours 12 (s .store))
 
 -- a neighbour reading of source 1 or 2
 abbrev pub withSource : Readings → ℕ → Reading → Readings
@@ -65,6 +64,10 @@ oneDenial s =
 unfoldable pub measuredIn : ℕ → Reading → List ℕ → Measured
 measuredIn kind g hs = cond (isSet (g .given)) (cond (eqb kind 1) (hourly hs) (whole (g .volume .0))) missing
 
+-- a neighbour reading that the record holds
+unfoldable pub statedIn : Reading → Stated
+statedIn g = cond (isSet (g .given)) (stated (g .volume .0)) unstated
+
 -- the row of a calendar month
 abbrev pub slot : Date → ℕ
 slot d = d .month - 1
@@ -80,33 +83,33 @@ lastYear d = record { year = d .year - 1; month = d .month }
 unfoldable pub pastIn : State → PastHours
 pastIn s =
     cond (eqb (at (s .point .past .years) (slot (s .point .date))) (s .point .date .year - 1))
-    (hours (hoursOf s (lastYear (s .point .date))))
-    (cond (eqb (s .point .past .latest) 0) none (hours (hoursOf s (dateOf (s .point .past .latest)))))
+    (some (hoursOf s (lastYear (s .point .date))))
+    (cond (eqb (s .point .past .latest) 0) none (some (hoursOf s (dateOf (s .point .past .latest)))))
 
--- what counts at a closing, from the record and the store
+-- what counts at a closing, from the record and the store: only the state at closing counts for the whole month (H)
 unfoldable pub inputs : State → List ℕ → Inputs
 inputs s marks =
     record {
       contract = s .point .contract;
       date = s .point .date;
       marks = marks;
-      missed = missedOf (s .point .service .run) (s .point .service .denials);
+      counted = countedOf (s .point .service .run) (s .point .service .denials);
       billing = measuredIn (s .point .contract .billing) (s .point .readings .billing) (rowPart (s .store) 12 (openHours (s .point .date)));
       control = measuredIn (s .point .contract .control) (s .point .readings .control) (rowPart (s .store) 13 (openHours (s .point .date)));
-      neighbour = neighbourOf (measuredIn 2 (s .point .readings .first) []) (measuredIn 2 (s .point .readings .second) []);
+      neighbour = neighbourOf (statedIn (s .point .readings .first)) (statedIn (s .point .readings .second));
       past = pastIn s;
     }
 
 -- in grounds 1 and 2 only, the hours become that calendar month's row and the latest past, and the run is 0; otherwise the run grows by 1
 abbrev pub pastAfter : Bool → Past → Date → Past
-pastAfter kept p d =
-    record { years = cond kept (set (p .years) (slot d) (d .year)) (p .years); latest = cond kept (monthNumber d) (p .latest) }
+pastAfter new p d =
+    record { years = cond new (set (p .years) (slot d) (d .year)) (p .years); latest = cond new (monthNumber d) (p .latest) }
 
 abbrev pub runAfter : Bool → ℕ → ℕ
-runAfter kept run = cond kept 0 (run + 1)
+runAfter new run = cond new 0 (run + 1)
 
 abbrev pub rowsAfter : Bool → List ℕ → Date → List ℕ → List ℕ
-rowsAfter kept hs d store = cond kept (putRow (slot d) (asRow hs) store) store
+rowsAfter new hs d store = cond new (withHours (slot d) hs store) store
 
 -- the total grows, rows 12 and 13 and the readings clear, the next month opens
 unfoldable pub closedWith : Outcome → State → State
@@ -117,18 +120,18 @@ closedWith u s =
             opened = s .point .opened;
             contract = s .point .contract;
             date = nextMonth (s .point .date);
-            service = withRun (s .point .service) (runAfter (metered u) (s .point .service .run));
-            past = pastAfter (metered u) (s .point .past) (s .point .date);
+            service = withRun (s .point .service) (runAfter (becomesPast u) (s .point .service .run));
+            past = pastAfter (becomesPast u) (s .point .past) (s .point .date);
             readings = noReadings;
             total = kwh (s .point .total .0 + u .volume);
           };
-      store = putRow 13 (asRow []) (putRow 12 (asRow []) (rowsAfter (metered u) (u .hours) (s .point .date) (s .store)));
+      store = withoutHours 13 (withoutHours 12 (rowsAfter (becomesPast u) (u .hours) (s .point .date) (s .store)));
     }
 
--- WHAT AN ACCEPTED CALL LEAVES
+-- WHAT AN ACCEPTED CALL LEAVES. A reading is given, with the volume of an integral or neighbour one; hours are written only into their own row
 unfoldable pub accept : State → Call → State
-accept s (billingHours hs) = state (withReadings (s .point) (withBilling (s .point .readings) (givenAs 0))) (putRow 12 (asRow hs) (s .store))
-accept s (controlHours hs) = state (withReadings (s .point) (withControl (s .point .readings) (givenAs 0))) (putRow 13 (asRow hs) (s .store))
+accept s (billingHours hs) = state (withReadings (s .point) (withBilling (s .point .readings) (givenAs 0))) (withHours 12 hs (s .store))
+accept s (controlHours hs) = state (withReadings (s .point) (withControl (s .point .readings) (givenAs 0))) (withHours 13 hs (s .store))
 accept s (billingVolume v) = state (withReadings (s .point) (withBilling (s .point .readings) (givenAs v))) (s .store)
 accept s (controlVolume v) = state (withReadings (s .point) (withControl (s .point .readings) (givenAs v))) (s .store)
 accept s (neighbour source v) = state (withReadings (s .point) (withSource (s .point .readings) source (givenAs v))) (s .store)
@@ -170,18 +173,18 @@ figuresOf s denial = noFigures
 figuresOf s permission = noFigures
 figuresOf s (closing marks buffer) = figures (rules (inputs s marks)) marks
 
-unfoldable pub handed : State → Call → List ℕ
-handed s (billingHours hs) = []
-handed s (controlHours hs) = []
-handed s (billingVolume v) = []
-handed s (controlVolume v) = []
-handed s (neighbour source v) = []
-handed s (failure reason) = []
-handed s admission = []
-handed s denial = []
-handed s permission = []
+unfoldable pub hoursOut : State → Call → List ℕ
+hoursOut s (billingHours hs) = []
+hoursOut s (controlHours hs) = []
+hoursOut s (billingVolume v) = []
+hoursOut s (controlVolume v) = []
+hoursOut s (neighbour source v) = []
+hoursOut s (failure reason) = []
+hoursOut s admission = []
+hoursOut s denial = []
+hoursOut s permission = []
 -- the hour buffer has 744 words, 0 from T on
-handed s (closing marks buffer) = asRow (rules (inputs s marks) .hours)
+hoursOut s (closing marks buffer) = asRow (rules (inputs s marks) .hours)
 
 -- THE ANSWER: a refused call returns the record given, with ground and figures 0
 unfoldable pub answer : State → Call → Answer
@@ -189,11 +192,11 @@ answer s c =
     record { refusal = refusal s c; after = leaves s c .point; figures = cond (accepted s c) (figuresOf s c) noFigures }
 
 -- the hour buffer after the call; a refused call leaves it
-unfoldable pub hands : State → Call → List ℕ
-hands s c = cond (accepted s c) (handed s c) (bufferOf c)
+unfoldable pub bufferAfter : State → Call → List ℕ
+bufferAfter s c = cond (accepted s c) (hoursOut s c) (bufferOf c)
 
 -- WHAT A CONTRACT SAYS of the call c on the state s, which answers a and leaves the store and the hour buffer so; a call without a buffer has []
 pub record Does (s : State) (c : Call) (a : Answer) (store buffer : List ℕ) : Type 0 where
   pub answered : a ≡ answer s c
   pub left : store ≡ leaves s c .store
-  pub handed-out : buffer ≡ hands s c
+  pub buffered : buffer ≡ bufferAfter s c

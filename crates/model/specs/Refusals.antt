@@ -25,7 +25,7 @@ abbrev pub anyone : ℕ → Record → ℕ → ℕ
 anyone words r rest =
     -- 1 store not 10,416 words
     refuse (not (eqb words 10416)) 1
-    -- 2 record not open, a field outside the limits, ..
+    -- 2 record not open, a field outside the limits here or not 0 where it has to be, ..: the tests of `valid`
     (refuse (not (valid r)) 2
     -- 3 the calendar is over (year 3000)
     (refuse (eqb (r .date .year) 3000) 3 rest))
@@ -45,7 +45,7 @@ openRefusal words o =
     -- 14 on basis 2, list empty or above 64, a current outside 1 to 2,000, or place outside the list
     (refuse (eqb (o .asked .basis) 2 && not (listFits (o .currents) (o .place))) 14 0)))))
 
--- METER READERS: which of 20 to 24 applies
+-- METER READERS: which of 20 to 24 applies; 20 no such meter, or a reading of the other form, or neighbour source not 1 or 2
 abbrev pub readers : Bool → Bool → Bool → Bool → Bool → ℕ
 readers t20 t21 t22 t23 t24 = refuse t20 20 (refuse t21 21 (refuse t22 22 (refuse t23 23 (refuse t24 24 0))))
 
@@ -75,9 +75,46 @@ isSource source = eqb source 1 || eqb source 2
 abbrev pub isReason : ℕ → Bool
 isReason reason = leb 1 reason && leb reason 4
 
+-- the numbers of each reading
+abbrev pub billingHoursNumber : Record → List ℕ → ℕ
+billingHoursNumber r hours =
+    readers (not (eqb (r .contract .billing) 1)) (isBarred (r .service)) (isSet (r .readings .billing .given)) (notMonth r hours) (hourAbove hours)
+
+abbrev pub controlHoursNumber : Record → List ℕ → ℕ
+controlHoursNumber r hours =
+    readers (not (eqb (r .contract .control) 1)) false (isSet (r .readings .control .given)) (notMonth r hours) (hourAbove hours)
+
+abbrev pub billingVolumeNumber : Record → ℕ → ℕ
+billingVolumeNumber r v =
+    readers (not (eqb (r .contract .billing) 2)) (isBarred (r .service)) (isSet (r .readings .billing .given)) false (volumeAbove r v)
+
+abbrev pub controlVolumeNumber : Record → ℕ → ℕ
+controlVolumeNumber r v =
+    readers (not (eqb (r .contract .control) 2)) false (isSet (r .readings .control .given)) false (volumeAbove r v)
+
+abbrev pub neighbourNumber : Record → ℕ → ℕ → ℕ
+neighbourNumber r source v = readers (not (isSource source)) false (sourceGiven r source) false (volumeAbove r v)
+
+-- NETWORK FIRM
+-- 30 failure while out of service; 31 reason not 1 to 4
+abbrev pub failureNumber : Record → ℕ → ℕ
+failureNumber r reason = refuse (not (isSet (r .service .serving))) 30 (refuse (not (isReason reason)) 31 0)
+
+-- 32 admission while in service
+abbrev pub admissionNumber : Record → ℕ
+admissionNumber r = refuse (isSet (r .service .serving)) 32 0
+
+-- 33 denial with two
+abbrev pub denialNumber : Record → ℕ
+denialNumber r = refuse (eqb (r .service .denials) 2) 33 0
+
+-- 34 permission with none
+abbrev pub permissionNumber : Record → ℕ
+permissionNumber r = refuse (eqb (r .service .denials) 0) 34 0
+
 -- SETTLEMENT, closing, of a record, the store, marks and hour buffer
-abbrev pub settlement : Record → List ℕ → List ℕ → List ℕ → ℕ
-settlement r store marks buffer =
+abbrev pub closingNumber : Record → List ℕ → List ℕ → List ℕ → ℕ
+closingNumber r store marks buffer =
     -- 40 not T marks
     refuse (not (eqb (length marks) (openHours (r .date)))) 40
     -- 41 mark above 3
@@ -91,27 +128,15 @@ settlement r store marks buffer =
     -- 45 a word above 3,000,000 in rows 0 to 11, or above 1,000,000 in 12 or 13
     (refuse (not (storeFits store)) 45 0)))))
 
--- the call's own numbers
+-- the call's own number, after anyone's
 unfoldable pub ownRefusal : Record → List ℕ → Call → ℕ
--- 20 no such meter, or a reading of the other form, or neighbour source not 1 or 2
-ownRefusal r store (billingHours hours) =
-    readers (not (eqb (r .contract .billing) 1)) (isBarred (r .service)) (isSet (r .readings .billing .given)) (notMonth r hours) (hourAbove hours)
-ownRefusal r store (controlHours hours) =
-    readers (not (eqb (r .contract .control) 1)) false (isSet (r .readings .control .given)) (notMonth r hours) (hourAbove hours)
-ownRefusal r store (billingVolume v) =
-    readers (not (eqb (r .contract .billing) 2)) (isBarred (r .service)) (isSet (r .readings .billing .given)) false (volumeAbove r v)
-ownRefusal r store (controlVolume v) =
-    readers (not (eqb (r .contract .control) 2)) false (isSet (r .readings .control .given)) false (volumeAbove r v)
-ownRefusal r store (neighbour source v) =
-    readers (not (isSource source)) false (sourceGiven r source) false (volumeAbove r v)
--- NETWORK FIRM
--- 30 failure while out of service; 31 reason not 1 to 4
-ownRefusal r store (failure reason) =
-    refuse (not (isSet (r .service .serving))) 30 (refuse (not (isReason reason)) 31 0)
--- 32 admission while in service
-ownRefusal r store admission = refuse (isSet (r .service .serving)) 32 0
--- 33 denial with two
-ownRefusal r store denial = refuse (eqb (r .service .denials) 2) 33 0
--- 34 permission with none
-ownRefusal r store permission = refuse (eqb (r .service .denials) 0) 34 0
-ownRefusal r store (closing marks buffer) = settlement r store marks buffer
+ownRefusal r store (billingHours hours) = billingHoursNumber r hours
+ownRefusal r store (controlHours hours) = controlHoursNumber r hours
+ownRefusal r store (billingVolume v) = billingVolumeNumber r v
+ownRefusal r store (controlVolume v) = controlVolumeNumber r v
+ownRefusal r store (neighbour source v) = neighbourNumber r source v
+ownRefusal r store (failure reason) = failureNumber r reason
+ownRefusal r store admission = admissionNumber r
+ownRefusal r store denial = denialNumber r
+ownRefusal r store permission = permissionNumber r
+ownRefusal r store (closing marks buffer) = closingNumber r store marks buffer

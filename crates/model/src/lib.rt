@@ -1,6 +1,5 @@
-// What every call answers, and the refusals that any call can get.
+// What every call answers, and the lists of refusals that several calls share.
 ghost use mathlib.Core.Path.{_≡_};
-ghost use Rattle.rules.specs.Rules.{noFigures};
 ghost use Rattle.model.specs.Refusals.{refuse, anyone, readers};
 ghost use Rattle.model.specs.Model.{quiet};
 use record::Record;

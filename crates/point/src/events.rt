@@ -5,7 +5,7 @@ ghost use Prim.Native.Nat.{_≤_};
 ghost use Rattle.record.specs.Record.{notGiven, withReadings, withBilling};
 ghost use Rattle.rows.specs.Store.{writtenIn};
 ghost use Rattle.rules.specs.Calls.Call.{failure, admission, denial, permission};
-ghost use Rattle.model.specs.Refusals.{anyone, ownRefusal};
+ghost use Rattle.model.specs.Refusals.{anyone, failureNumber, admissionNumber, denialNumber, permissionNumber};
 ghost use Rattle.model.specs.Model.{state, afterFailure, quiet, Does};
 use calendar::Date;
 use calendar::month_number;
@@ -49,7 +49,7 @@ fn after_failure(s: Service, d: Date, reason: u32) -> Service
 }
 
 fn failure_refusal(words: usize, r: Record, reason: u32) -> u32
-    ensures { λ n. ⌜ n ≡ anyone words r (ownRefusal r [] (failure reason)) ⌝ }
+    ensures { λ n. ⌜ n ≡ anyone words r (failureNumber r reason) ⌝ }
 {
     let n = refuse_if(!((1 <= reason) & (reason <= 4)), 31, 0);
     let n = refuse_if(!(r.service.serving == 1), 30, n);
@@ -71,7 +71,7 @@ pub fn fail(r: Record, store: &mut [u32], reason: u32) -> Answer
 }
 
 fn admission_refusal(words: usize, r: Record) -> u32
-    ensures { λ n. ⌜ n ≡ anyone words r (ownRefusal r [] admission) ⌝ }
+    ensures { λ n. ⌜ n ≡ anyone words r (admissionNumber r) ⌝ }
 {
     refuse_anyone(words, r, refuse_if(r.service.serving == 1, 32, 0))
 }
@@ -90,7 +90,7 @@ pub fn admit(r: Record, store: &[u32]) -> Answer
 }
 
 fn denial_refusal(words: usize, r: Record) -> u32
-    ensures { λ n. ⌜ n ≡ anyone words r (ownRefusal r [] denial) ⌝ }
+    ensures { λ n. ⌜ n ≡ anyone words r (denialNumber r) ⌝ }
 {
     refuse_anyone(words, r, refuse_if(r.service.denials == 2, 33, 0))
 }
@@ -114,7 +114,7 @@ pub fn deny(r: Record, store: &mut [u32]) -> Answer
 }
 
 fn permission_refusal(words: usize, r: Record) -> u32
-    ensures { λ n. ⌜ n ≡ anyone words r (ownRefusal r [] permission) ⌝ }
+    ensures { λ n. ⌜ n ≡ anyone words r (permissionNumber r) ⌝ }
 {
     refuse_anyone(words, r, refuse_if(r.service.denials == 0, 34, 0))
 }

@@ -3,7 +3,7 @@ ghost use mathlib.Core.Path.{_≡_};
 ghost use mathlib.Core.Bool.{false};
 ghost use mathlib.Core.List.{[]};
 ghost use Rattle.rules.specs.Calls.Call.{billingHours, billingVolume, controlHours, controlVolume, neighbour};
-ghost use Rattle.model.specs.Refusals.{anyone, readers, isBarred, notMonth, hourAbove, volumeAbove, sourceGiven, isSource, ownRefusal};
+ghost use Rattle.model.specs.Refusals.{anyone, readers, isBarred, notMonth, hourAbove, volumeAbove, billingHoursNumber, controlHoursNumber, billingVolumeNumber, controlVolumeNumber, neighbourNumber};
 ghost use Rattle.model.specs.Model.{state, Does};
 use calendar::open_hours;
 use model::Answer;
@@ -47,7 +47,7 @@ fn refuse_volume(r: Record, t20: bool, t21: bool, t22: bool, volume: Kwh) -> u32
 }
 
 fn billing_hours_refusal(words: usize, r: Record, hours: &[u32]) -> u32
-    ensures { λ n. ⌜ n ≡ anyone words r (ownRefusal r [] (billingHours (now (hours .entry)))) ⌝ }
+    ensures { λ n. ⌜ n ≡ anyone words r (billingHoursNumber r (now (hours .entry))) ⌝ }
 {
     let other = r.contract.billing != 1;
     let given = r.readings.billing.given == 1;
@@ -68,7 +68,7 @@ pub fn read_billing_hours(r: Record, store: &mut [u32], hours: &[u32]) -> Answer
 }
 
 fn control_hours_refusal(words: usize, r: Record, hours: &[u32]) -> u32
-    ensures { λ n. ⌜ n ≡ anyone words r (ownRefusal r [] (controlHours (now (hours .entry)))) ⌝ }
+    ensures { λ n. ⌜ n ≡ anyone words r (controlHoursNumber r (now (hours .entry))) ⌝ }
 {
     let other = r.contract.control != 1;
     let given = r.readings.control.given == 1;
@@ -89,7 +89,7 @@ pub fn read_control_hours(r: Record, store: &mut [u32], hours: &[u32]) -> Answer
 }
 
 fn billing_volume_refusal(words: usize, r: Record, volume: Kwh) -> u32
-    ensures { λ n. ⌜ n ≡ anyone words r (ownRefusal r [] (billingVolume (volume .0))) ⌝ }
+    ensures { λ n. ⌜ n ≡ anyone words r (billingVolumeNumber r (volume .0)) ⌝ }
 {
     let other = r.contract.billing != 2;
     let given = r.readings.billing.given == 1;
@@ -109,7 +109,7 @@ pub fn read_billing_volume(r: Record, store: &[u32], volume: Kwh) -> Answer
 }
 
 fn control_volume_refusal(words: usize, r: Record, volume: Kwh) -> u32
-    ensures { λ n. ⌜ n ≡ anyone words r (ownRefusal r [] (controlVolume (volume .0))) ⌝ }
+    ensures { λ n. ⌜ n ≡ anyone words r (controlVolumeNumber r (volume .0)) ⌝ }
 {
     let other = r.contract.control != 2;
     let given = r.readings.control.given == 1;
@@ -129,7 +129,7 @@ pub fn read_control_volume(r: Record, store: &[u32], volume: Kwh) -> Answer
 }
 
 fn neighbour_refusal(words: usize, r: Record, source: u32, volume: Kwh) -> u32
-    ensures { λ n. ⌜ n ≡ anyone words r (ownRefusal r [] (neighbour source (volume .0))) ⌝ }
+    ensures { λ n. ⌜ n ≡ anyone words r (neighbourNumber r source (volume .0)) ⌝ }
 {
     let other = !((source == 1) | (source == 2));
     let given = pick(source == 1, r.readings.first.given, r.readings.second.given) == 1;

@@ -35,7 +35,7 @@ cableFits k =
 unfoldable pub formulaIn : Cable → ℕ → ℕ
 formulaIn k t = cond (cableFits k && leb t 8760) (formula k t) 18446744073709551615
 
--- basis 1: P is agreed, 1 to 1,000,000
+-- bases 1 and 2: the agreed power, 1 to 1,000,000
 unfoldable pub agreedFits : ℕ → Bool
 agreedFits p = leb 1 p && leb p 1000000
 

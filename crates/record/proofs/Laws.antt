@@ -1,5 +1,5 @@
 -- What number 2 tells of a record that passes it, and how a record passes it. Assumes nothing.
-use Prim.Native.Nat.{ℕ, _+_, _-_, _/_, _%_, _≤_, _<_, zero-le}
+use Prim.Native.Nat.{ℕ, _≤_, zero-le}
 use mathlib.Core.Path.{_≡_, refl, sym, _∙_}
 use mathlib.Core.Bool.{Bool, true, false, not, _&&_, _||_, false≢true}
 use mathlib.Core.List.{List, [], _∷_}
@@ -9,7 +9,7 @@ use lib.Dec.{leb, ltb, eqb, lit≤}
 use Rattle.numbers.specs.Lists.{allTo, at}
 use Rattle.numbers.proofs.Laws.{by-cases, both, first-of, all-at}
 use Rattle.calendar.specs.declared.Date.{Date}
-use Rattle.calendar.specs.Calendar.{isOpen, monthNumber}
+use Rattle.calendar.specs.Calendar.{isOpen, monthNumber, isMonthNumber, yearOf, placeOf}
 use Rattle.contract.specs.declared.Contract.{Contract}
 use Rattle.record.specs.declared.Service.{Service}
 use Rattle.record.specs.declared.Past.{Past}
@@ -17,7 +17,7 @@ use Rattle.record.specs.declared.Reading.{Reading}
 use Rattle.record.specs.declared.Readings.{Readings}
 use Rattle.record.specs.declared.Record.{Record}
 use Rattle.record.specs.Record.{isSet, notGiven, givenAs, noReadings}
-use Rattle.record.specs.Valid.{allFrom, allOf, isMonthNumber, contractTests, serviceTests, yearFits, pastTests, readingTests, readingsTests, volumeLimit, recordTests, valid}
+use Rattle.record.specs.Valid.{allFrom, allOf, contractTests, serviceTests, yearFits, pastTests, readingTests, readingsTests, volumeLimit, recordTests, valid}
 
 -- every test of a list, one by one
 abbrev pub Each : List Bool → Type 0
@@ -111,7 +111,7 @@ fault-most r h =
 pub record PastFits (p : Past) (d : Date) : Type 0 where
   pub years : allTo (yearFits (p .years) d) 12 ≡ true
   pub latest : eqb (p .latest) 0 || (isMonthNumber (p .latest) && ltb (p .latest) (monthNumber d)) ≡ true
-  pub row : eqb (p .latest) 0 || eqb (at (p .years) ((p .latest - 1) % 12)) ((p .latest - 1) / 12) ≡ true
+  pub row : eqb (p .latest) 0 || eqb (at (p .years) (placeOf (p .latest))) (yearOf (p .latest)) ≡ true
 
 pub past-parts : (p : Past) (d : Date) → allOf (pastTests p d) ≡ true → PastFits p d
 past-parts p d h =

@@ -1,4 +1,4 @@
--- Records made and changed (document 01, 'What a point keeps'). Each part of a record has one function that replaces it.
+-- Records made and changed (document 01, 'What a point keeps'). What a call replaces has a function that replaces it.
 use Prim.Native.Nat.{ℕ}
 use mathlib.Core.Bool.{Bool}
 use lib.Dec.{eqb}

@@ -1,11 +1,11 @@
 -- Number 2 (document 01, 'Who causes which number'): when a record is one that a point can have. A test for each sentence, in the order of the record.
-use Prim.Native.Nat.{ℕ, _+_, _-_, _*_, _/_, _%_}
+use Prim.Native.Nat.{ℕ, _+_, _*_}
 use mathlib.Core.Bool.{Bool, true, not, cond, _&&_, _||_}
 use mathlib.Core.List.{List, [], _∷_}
 use lib.Dec.{leb, ltb, eqb}
 use Rattle.numbers.specs.Lists.{allTo, at}
 use Rattle.calendar.specs.declared.Date.{Date}
-use Rattle.calendar.specs.Calendar.{isOpen, openHours, monthNumber}
+use Rattle.calendar.specs.Calendar.{isOpen, openHours, monthNumber, isMonthNumber, yearOf, placeOf}
 use Rattle.power.specs.declared.Cable.{Cable}
 use Rattle.power.specs.Power.{cableFits}
 use Rattle.contract.specs.declared.Contract.{Contract}
@@ -24,10 +24,6 @@ allFrom so (t ∷ ts) = allFrom (so && t) ts
 
 abbrev pub allOf : List Bool → Bool
 allOf ts = allFrom true ts
-
--- the number of a month in 2014 to 2999
-abbrev pub isMonthNumber : ℕ → Bool
-isMonthNumber n = leb 24169 n && leb n 36000
 
 -- a cable's values where the basis has no cable
 abbrev pub isNoCable : Cable → Bool
@@ -76,7 +72,7 @@ pastTests p d =
     -- "the latest past month, 0 for none", and "the latest past not before" the open month
     ∷ (eqb (p .latest) 0 || (isMonthNumber (p .latest) && ltb (p .latest) (monthNumber d)))
     -- "the latest past month not in its row"
-    ∷ (eqb (p .latest) 0 || eqb (at (p .years) ((p .latest - 1) % 12)) ((p .latest - 1) / 12))
+    ∷ (eqb (p .latest) 0 || eqb (at (p .years) (placeOf (p .latest))) (yearOf (p .latest)))
     ∷ []
 
 -- T × 1,000,000

@@ -2,8 +2,8 @@
 ghost use mathlib.Core.Path.{_≡_};
 ghost use mathlib.Core.Bool.{cond, _&&_, _||_};
 ghost use lib.Dec.{eqb, leb, ltb};
-ghost use Prim.Native.Nat.{_+_, _-_, _/_, _%_, _<_};
-ghost use Rattle.calendar.specs.Calendar.{monthNumber};
+ghost use Prim.Native.Nat.{_+_, _<_};
+ghost use Rattle.calendar.specs.Calendar.{monthNumber, yearOf, placeOf};
 ghost use Rattle.numbers.specs.Lists.{allTo, at};
 ghost use Rattle.record.specs.Valid.{allOf, isNoCable, contractTests, serviceTests, yearFits, pastTests, readingTests, readingsTests, volumeLimit, valid};
 use super::Past;
@@ -92,7 +92,7 @@ fn years_fit(years: [u32; 12], d: Date) -> bool
 
 // Whether the row of the latest past month holds its year, or there is no such month.
 fn latest_in_row(p: Past) -> bool
-    ensures { λ r. ⌜ r ≡ (eqb (p .latest) 0 || eqb (at (p .years) ((p .latest - 1) % 12)) ((p .latest - 1) / 12)) ⌝ }
+    ensures { λ r. ⌜ r ≡ (eqb (p .latest) 0 || eqb (at (p .years) (placeOf (p .latest))) (yearOf (p .latest))) ⌝ }
 {
     let latest = p.latest;
     if latest == 0 {

@@ -1,7 +1,7 @@
 -- The store (document 01, 'What a point keeps'): 10,416 words, 14 rows of 744.
 use Prim.Native.Nat.{ℕ, _*_}
 use mathlib.Core.Bool.{Bool, cond, _&&_}
-use mathlib.Core.List.{List, _++_}
+use mathlib.Core.List.{List, [], _++_}
 use lib.ListN.{length, take, drop}
 use lib.Dec.{eqb, leb}
 use Rattle.numbers.specs.Lists.{zeros, padded, noneAbove}
@@ -14,13 +14,20 @@ asRow hours = padded 744 hours
 unfoldable pub putRow : ℕ → List ℕ → List ℕ → List ℕ
 putRow r xs store = take (744 * r) store ++ (xs ++ drop 744 (drop (744 * r) store))
 
+-- the store with hours written into row r, and with row r cleared
+abbrev pub withHours : ℕ → List ℕ → List ℕ → List ℕ
+withHours r hours store = putRow r (asRow hours) store
+
+abbrev pub withoutHours : ℕ → List ℕ → List ℕ
+withoutHours r store = withHours r [] store
+
 -- whether a store has row r, and a row holds so many hours
 unfoldable pub rowTakes : ℕ → ℕ → ℕ → Bool
 rowTakes size r count = eqb size 10416 && leb r 13 && leb count 744
 
 -- the store with hours written into row r, where it takes them
 unfoldable pub writtenIn : ℕ → List ℕ → List ℕ → List ℕ
-writtenIn r hours store = cond (rowTakes (length store) r (length hours)) (putRow r (asRow hours) store) store
+writtenIn r hours store = cond (rowTakes (length store) r (length hours)) (withHours r hours store) store
 
 -- as an opening leaves it
 abbrev pub emptyStore : List ℕ

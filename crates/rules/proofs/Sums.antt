@@ -1,7 +1,7 @@
 -- The rules are right of every input that a point can bring: the hours are those of the month, sum to the volume, and each is near its exact share. Assumes nothing.
 use Prim.Native.Nat.{ℕ, _+_, _-_, _*_, _≤_, _<_}
 use mathlib.Core.Path.{_≡_, refl, sym, _∙_}
-use mathlib.Core.Bool.{Bool, true, false, cond, _&&_, _||_, true≢false}
+use mathlib.Core.Bool.{Bool, true, false, not, cond, _&&_, _||_, true≢false}
 use mathlib.Core.List.{List}
 use native.Mathlib.Omega.{arith}
 use native.Mathlib.Nat.{mul-comm, mul-le-mul, mul-le-mul-left, mul-one}
@@ -19,7 +19,7 @@ use Rattle.marks.specs.Peak.{peakPart, peakRule}
 use Rattle.marks.proofs.Laws.{peaks-most}
 use Rattle.marks.proofs.Rule.{sum-peak-rule, length-peak-rule, peak-rule-most, peak-near, other-near}
 use Rattle.contract.specs.Contract.{powerOf}
-use Rattle.rules.specs.Rules.{Measured, missing, hourly, whole, PastHours, none, hours, Inputs, Share, Outcome, hoursIn, powerIn, asRead, byWeights, byPeaks, evenly, byContract, onPast, flatterIn, onControlPast, onControl, onBilling, rules, metered}
+use Rattle.rules.specs.Rules.{Measured, missing, hourly, whole, PastHours, none, some, Inputs, Share, Outcome, hoursIn, pointPower, asRead, byWeights, byPeaks, evenly, byContract, onPast, groundSixIn, onControlPast, onControl, onBilling, rules, becomesPast, isMissed}
 use Rattle.rules.specs.Right.{NearShare, Right, HoursFit, MeasuredFits, PastHoursFit, Sane}
 
 -- the sum of a month's hours of at most k each
@@ -42,14 +42,14 @@ as-read g k t hs e m l n = record {
 
 -- BY WEIGHTS, on a ground other than 1 and 2
 by-weights : (g v t : ℕ) (ws : List ℕ) → eqb g 1 || eqb g 2 ≡ false → length ws ≡ t → 0 < t → v ≤ 2232000000 → Right t (byWeights g v ws)
-unfolding byWeights metered
-by-weights g v t ws other e some l =
-    let some′ : 0 < length ws = omega arith in
+unfolding byWeights becomesPast
+by-weights g v t ws other e any l =
+    let hours : 0 < length ws = omega arith in
     record {
       long = length-shares v every ws ∙ e;
-      sums = sum-shares v every ws some′;
+      sums = sum-shares v every ws hours;
       near = λ h i.
-          let n = near-shares v every ws some′ h (omega arith) in
+          let n = near-shares v every ws hours h (omega arith) in
           record { below = n .below; above = n .above };
       most = l;
       small = λ y. absurd (true≢false (sym y ∙ other));
@@ -64,7 +64,7 @@ module _ (i : Inputs) (sane : Sane i) where
   short-month = omega (arith, sane .whole-days, sane .few)
 
   -- P is at most 1,000,000
-  power-small : powerIn i ≤ 1000000
+  power-small : pointPower i ≤ 1000000
   unfolding powerOf
   power-small =
       by-cases (eqb (i .contract .basis) 3)
@@ -79,7 +79,7 @@ module _ (i : Inputs) (sane : Sane i) where
   by-peaks : (g v : ℕ) → v ≤ hoursIn i * 1000000 → Right (hoursIn i) (byPeaks g i v)
   unfolding byPeaks
   by-peaks g v l =
-      let p = powerIn i in
+      let p = pointPower i in
       let ms = i .marks in
       record {
         long = length-peak-rule v p ms ∙ sane .marks;
@@ -88,7 +88,9 @@ module _ (i : Inputs) (sane : Sane i) where
             let m′ : h < length ms = omega (arith, sane .marks) in
             by-cases (peakAt ms h)
             (λ t. let n = peak-near v p ms h m′ rest t in rw t (record { below = simp mul-one at (n .below); above = simp mul-one at (n .above) }))
-            (λ f. let n = other-near v p ms h m′ rest f in rw f (record { below = simp mul-one at (n .below); above = simp mul-one at (n .above) }));
+            (λ f.
+            let n = rw (sane .marks) at (other-near v p ms h m′ rest f) in
+            rw f (record { below = simp mul-one at (n .below); above = simp mul-one at (n .above) }));
         most = omega (arith, short-month);
         small = λ y.
             none-above-from 3000000 (peakRule v p ms) λ h m.
@@ -107,7 +109,7 @@ module _ (i : Inputs) (sane : Sane i) where
   by-contract =
       by-cases (eqb (i .contract .basis) 3)
       (λ t. rw t (by-even 9 (formula (i .contract .cable) (hoursIn i)) refl (formula-most (i .contract .cable) (hoursIn i) (sane .cable t))))
-      (λ f. rw f (by-even 8 (hoursIn i * i .contract .power .0) refl (omega (arith, mul-comm (hoursIn i) (i .contract .power .0), mul-le-mul-left (hoursIn i) (sane .power), mul-comm (hoursIn i) 1000000))))
+      (λ f. rw f (by-even 8 (hoursIn i * pointPower i) refl (omega (arith, mul-comm (hoursIn i) (pointPower i), mul-le-mul-left (hoursIn i) power-small, mul-comm (hoursIn i) 1000000))))
 
   -- the past of a month
   past-small : (hs : List ℕ) → noneAbove 3000000 hs ≡ true → noneAbove 3000000 (stretched hs (hoursIn i)) ≡ true
@@ -125,8 +127,8 @@ module _ (i : Inputs) (sane : Sane i) where
   on-past : (p : PastHours) → PastHoursFit p → Right (hoursIn i) (onPast i p)
   unfolding onPast
   on-past none f = by-contract
-  on-past (hours hs) f =
-      by-cases (leb (i .missed) 2)
+  on-past (some hs) f =
+      by-cases (leb (i .counted) 2)
       (λ t. rw t (as-read 7 3000000 (hoursIn i) (stretched hs (hoursIn i)) (past-long hs) short-month (lit≤ tt) (past-small hs f)))
       (λ g. rw g by-contract)
 
@@ -134,13 +136,13 @@ module _ (i : Inputs) (sane : Sane i) where
   on-control-past : (v : ℕ) (p : PastHours) → v ≤ hoursIn i * 1000000 → Right (hoursIn i) (onControlPast i v p)
   unfolding onControlPast
   on-control-past v none l = by-peaks 5 v l
-  on-control-past v (hours hs) l =
+  on-control-past v (some hs) l =
       let most : v ≤ 2232000000 = omega (arith, short-month) in
-      by-cases (leb (i .missed) 2)
+      by-cases (leb (i .counted) 2)
       (λ t. rw t (by-weights 4 v (hoursIn i) (stretched hs (hoursIn i)) refl (past-long hs) long-month most))
       (λ f.
       rw f
-      (by-cases (flatterIn i v (shares v (stretched hs (hoursIn i))))
+      (by-cases (groundSixIn i v (shares v (stretched hs (hoursIn i))))
       (λ t. rw t (by-weights 6 v (hoursIn i) (stretched hs (hoursIn i)) refl (past-long hs) long-month most))
       (λ g. rw g (by-peaks 5 v l))))
 
@@ -162,3 +164,36 @@ module _ (i : Inputs) (sane : Sane i) where
 pub rules-right : (i : Inputs) → Sane i → Right (hoursIn i) (rules i)
 unfolding rules
 rules-right i sane = on-billing i sane (i .billing) (sane .billing)
+
+-- A MONTH BECOMES THE PAST just where it is not missed
+contract-late : (i : Inputs) → becomesPast (byContract i) ≡ false
+unfolding becomesPast byContract evenly byWeights
+contract-late i = by-cases (eqb (i .contract .basis) 3) (λ t. rw t) (λ f. rw f)
+
+past-late : (i : Inputs) (p : PastHours) → becomesPast (onPast i p) ≡ false
+unfolding becomesPast onPast asRead
+past-late i none = contract-late i
+past-late i (some hs) = by-cases (leb (i .counted) 2) (λ t. rw t) (λ f. rw f (contract-late i))
+
+control-past-late : (i : Inputs) (v : ℕ) (p : PastHours) → becomesPast (onControlPast i v p) ≡ false
+unfolding becomesPast onControlPast byWeights byPeaks
+control-past-late i v none = refl
+control-past-late i v (some hs) =
+    by-cases (leb (i .counted) 2) (λ t. rw t)
+    (λ f. rw f (by-cases (groundSixIn i v (shares v (stretched hs (hoursIn i)))) (λ t. rw t) (λ g. rw g)))
+
+control-late : (i : Inputs) (m : Measured) → becomesPast (onControl i m) ≡ false
+unfolding becomesPast onControl asRead
+control-late i missing = past-late i (i .past)
+control-late i (hourly hs) = refl
+control-late i (whole k) = control-past-late i (k - i .neighbour) (i .past)
+
+billing-past : (i : Inputs) (m : Measured) → becomesPast (onBilling i m) ≡ not (isMissed m)
+unfolding becomesPast onBilling asRead byPeaks isMissed
+billing-past i missing = control-late i (i .control)
+billing-past i (hourly hs) = refl
+billing-past i (whole b) = refl
+
+pub past-not-missed : (i : Inputs) → becomesPast (rules i) ≡ not (isMissed (i .billing))
+unfolding rules
+past-not-missed i = billing-past i (i .billing)

@@ -8,7 +8,7 @@ use lib.Dec.{eqb}
 use Rattle.numbers.specs.Lists.{sum, at, noneAbove}
 use Rattle.power.specs.Power.{cableFits}
 use Rattle.marks.specs.Marks.{crowded}
-use Rattle.rules.specs.Rules.{Measured, missing, hourly, whole, PastHours, none, hours, Inputs, Share, Outcome, hoursIn, metered}
+use Rattle.rules.specs.Rules.{Measured, missing, hourly, whole, PastHours, none, some, Inputs, Share, Outcome, hoursIn, becomesPast}
 
 -- an hour is less than one kWh from its exact share
 pub record NearShare (x : ℕ) (q : Share) : Type 0 where
@@ -23,7 +23,7 @@ pub record Right (t : ℕ) (u : Outcome) : Type 0 where
   -- at most 744 × 3,000,000
   pub most : u .volume ≤ 2232000000
   -- the hours of ground 1 or 2 fit a row
-  pub small : metered u ≡ true → noneAbove 3000000 (u .hours) ≡ true
+  pub small : becomesPast u ≡ true → noneAbove 3000000 (u .hours) ≡ true
 
 -- a reading of a month of t hours
 pub record HoursFit (t : ℕ) (hs : List ℕ) : Type 0 where
@@ -37,7 +37,7 @@ MeasuredFits t (whole v) = v ≤ t * 1000000
 
 abbrev pub PastHoursFit : PastHours → Type 0
 PastHoursFit none = Unit {0}
-PastHoursFit (hours hs) = noneAbove 3000000 hs ≡ true
+PastHoursFit (some hs) = noneAbove 3000000 hs ≡ true
 
 -- what a point that is closed brings: marks of whole days that pass 42, a power and readings within their limits
 pub record Sane (i : Inputs) : Type 0 where

@@ -2,7 +2,7 @@
 use borrow.Author.Needs.{needs}
 use mathlib.Core.Path.{refl}
 use Rattle.model.proofs.Laws.{refused, done}
-use Rattle.model.specs.Model.{refusal, accept, figuresOf, handed}
+use Rattle.model.specs.Model.{refusal, accept, figuresOf, hoursOut}
 use Rattle.model.specs.Refusals.{ownRefusal}
 use Rattle.rules.specs.Calls.Call.{admission}
 use Rattle.rules.specs.Calls.{bufferOf}
@@ -10,7 +10,7 @@ use Rattle.point.proofs.events.admit.Statement.{statement}
 use Rattle.point.proofs.events.admit.Tie as tie
 
 pub admit-spec : {M : Type 1} → statement M
-unfolding bufferOf ownRefusal refusal accept figuresOf handed
+unfolding bufferOf ownRefusal refusal accept figuresOf hoursOut
 admit-spec =
     tie.close
     (tie.spec

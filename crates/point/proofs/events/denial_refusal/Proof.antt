@@ -1,9 +1,7 @@
 -- `point::events::denial_refusal` meets its contract. Assumes nothing.
 use borrow.Author.Needs.{needs}
-use Rattle.model.specs.Refusals.{ownRefusal}
 use Rattle.point.proofs.events.denial_refusal.Statement.{statement}
 use Rattle.point.proofs.events.denial_refusal.Tie as tie
 
 pub denial-refusal-spec : {M : Type 1} → statement M
-unfolding ownRefusal
 denial-refusal-spec = tie.close (tie.spec (λ c κs. search needs) (λ c κs. search needs) (λ c. cc))

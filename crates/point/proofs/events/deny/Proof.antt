@@ -6,7 +6,7 @@ use native.Mathlib.Omega.{arith}
 use denote.Ref.{now}
 use lib.ListN.{length}
 use Rattle.model.proofs.Laws.{refused, done}
-use Rattle.model.specs.Model.{refusal, accept, figuresOf, handed}
+use Rattle.model.specs.Model.{refusal, accept, figuresOf, hoursOut}
 use Rattle.model.specs.Refusals.{ownRefusal}
 use Rattle.point.proofs.Laws.{denials-few, row-cleared}
 use Rattle.rules.specs.Calls.Call.{denial}
@@ -15,7 +15,7 @@ use Rattle.point.proofs.events.deny.Statement.{statement}
 use Rattle.point.proofs.events.deny.Tie as tie
 
 pub deny-spec : {M : Type 1} → statement M
-unfolding bufferOf ownRefusal refusal accept figuresOf handed
+unfolding bufferOf ownRefusal refusal accept figuresOf hoursOut
 deny-spec =
     tie.close
     (tie.spec

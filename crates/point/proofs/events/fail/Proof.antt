@@ -4,7 +4,7 @@ use mathlib.Core.Path.{refl, _∙_}
 use denote.Ref.{now}
 use lib.ListN.{length}
 use Rattle.model.proofs.Laws.{refused, done}
-use Rattle.model.specs.Model.{refusal, accept, figuresOf, handed}
+use Rattle.model.specs.Model.{refusal, accept, figuresOf, hoursOut}
 use Rattle.model.specs.Refusals.{ownRefusal}
 use Rattle.point.proofs.Laws.{fault-small, row-cleared}
 use Rattle.rules.specs.Calls.Call.{failure}
@@ -13,7 +13,7 @@ use Rattle.point.proofs.events.fail.Statement.{statement}
 use Rattle.point.proofs.events.fail.Tie as tie
 
 pub fail-spec : {M : Type 1} → statement M
-unfolding bufferOf ownRefusal refusal accept figuresOf handed
+unfolding bufferOf ownRefusal refusal accept figuresOf hoursOut
 fail-spec =
     tie.close
     (tie.spec

@@ -1,11 +1,9 @@
 -- `point::events::failure_refusal` meets its contract. Assumes nothing.
 use borrow.Author.Needs.{needs}
-use Rattle.model.specs.Refusals.{ownRefusal}
 use Rattle.point.proofs.events.failure_refusal.Statement.{statement}
 use Rattle.point.proofs.events.failure_refusal.Tie as tie
 
 pub failure-refusal-spec : {M : Type 1} → statement M
-unfolding ownRefusal
 failure-refusal-spec =
     tie.close
     (tie.spec

@@ -1,11 +1,9 @@
 -- `point::readings::billing_hours_refusal` meets its contract. Assumes nothing.
 use borrow.Author.Needs.{needs}
-use Rattle.model.specs.Refusals.{ownRefusal}
 use Rattle.point.proofs.readings.billing_hours_refusal.Statement.{statement}
 use Rattle.point.proofs.readings.billing_hours_refusal.Tie as tie
 
 pub billing-hours-refusal-spec : {M : Type 1} → statement M
-unfolding ownRefusal
 billing-hours-refusal-spec =
     tie.close
     (tie.spec

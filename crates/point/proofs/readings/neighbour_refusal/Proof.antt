@@ -1,11 +1,9 @@
 -- `point::readings::neighbour_refusal` meets its contract. Assumes nothing.
 use borrow.Author.Needs.{needs}
-use Rattle.model.specs.Refusals.{ownRefusal}
 use Rattle.point.proofs.readings.neighbour_refusal.Statement.{statement}
 use Rattle.point.proofs.readings.neighbour_refusal.Tie as tie
 
 pub neighbour-refusal-spec : {M : Type 1} → statement M
-unfolding ownRefusal
 neighbour-refusal-spec =
     tie.close
     (tie.spec

@@ -3,7 +3,7 @@ use borrow.Author.Needs.{needs}
 use lib.Dec.{lit≤}
 use mathlib.Core.Path.{refl, _∙_}
 use Rattle.model.proofs.Laws.{refused, done}
-use Rattle.model.specs.Model.{refusal, accept, figuresOf, handed}
+use Rattle.model.specs.Model.{refusal, accept, figuresOf, hoursOut}
 use Rattle.model.specs.Refusals.{ownRefusal}
 use Rattle.point.proofs.Laws.{hours-written}
 use Rattle.rules.specs.Calls.Call.{controlHours}
@@ -12,7 +12,7 @@ use Rattle.point.proofs.readings.read_control_hours.Statement.{statemen
 use Rattle.point.proofs.readings.read_control_hours.Tie as tie
 
 pub read-control-hours-spec : {M : Type 1} → statement M
-unfolding bufferOf ownRefusal refusal accept figuresOf handed
+unfolding bufferOf ownRefusal refusal accept figuresOf hoursOut
 read-control-hours-spec =
     tie.close
     (tie.spec

@@ -2,7 +2,7 @@
 use borrow.Author.Needs.{needs}
 use mathlib.Core.Path.{refl}
 use Rattle.model.proofs.Laws.{refused, done}
-use Rattle.model.specs.Model.{refusal, accept, figuresOf, handed}
+use Rattle.model.specs.Model.{refusal, accept, figuresOf, hoursOut}
 use Rattle.model.specs.Refusals.{ownRefusal}
 use Rattle.rules.specs.Calls.Call.{controlVolume}
 use Rattle.rules.specs.Calls.{bufferOf}
@@ -10,7 +10,7 @@ use Rattle.point.proofs.readings.read_control_volume.Statement.{stateme
 use Rattle.point.proofs.readings.read_control_volume.Tie as tie
 
 pub read-control-volume-spec : {M : Type 1} → statement M
-unfolding bufferOf ownRefusal refusal accept figuresOf handed
+unfolding bufferOf ownRefusal refusal accept figuresOf hoursOut
 read-control-volume-spec =
     tie.close
     (tie.spec

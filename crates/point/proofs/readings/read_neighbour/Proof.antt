@@ -3,7 +3,7 @@ use borrow.Author.Needs.{needs}
 use borrow.Author.Tests.{eq-eqb, ne-eqb}
 use mathlib.Core.Path.{refl}
 use Rattle.model.proofs.Laws.{refused, done}
-use Rattle.model.specs.Model.{refusal, accept, figuresOf, handed}
+use Rattle.model.specs.Model.{refusal, accept, figuresOf, hoursOut}
 use Rattle.model.specs.Refusals.{ownRefusal}
 use Rattle.rules.specs.Calls.Call.{neighbour}
 use Rattle.rules.specs.Calls.{bufferOf}
@@ -11,7 +11,7 @@ use Rattle.point.proofs.readings.read_neighbour.Statement.{statement}
 use Rattle.point.proofs.readings.read_neighbour.Tie as tie
 
 pub read-neighbour-spec : {M : Type 1} → statement M
-unfolding bufferOf ownRefusal refusal accept figuresOf handed
+unfolding bufferOf ownRefusal refusal accept figuresOf hoursOut
 read-neighbour-spec =
     tie.close
     (tie.spec
