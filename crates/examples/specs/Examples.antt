@@ -1,14 +1,18 @@
 -- The common table of examples (document 01, 'Examples to be shown in a common table'), in its order.
 use Prim.Native.Nat.{ℕ}
 use mathlib.Core.Path.{_≡_}
+use mathlib.Core.Bool.{true, false}
 use mathlib.Core.List.{List, [], _∷_}
 use Rattle.calendar.specs.declared.Date.{Date}
-use Rattle.calendar.specs.Calendar.{monthDays}
+use Rattle.calendar.specs.Calendar.{monthDays, monthNumber}
 use Rattle.sharing.specs.Shares.{shares}
 use Rattle.power.specs.declared.Cable.{Cable}
 use Rattle.power.specs.Power.{formula, sharedPower}
 use Rattle.marks.specs.Marks.{capacityOf}
 use Rattle.marks.specs.Peak.{peakRule}
+use Rattle.record.specs.declared.Service.{Service}
+use Rattle.rules.specs.Rules.{groundSix}
+use Rattle.model.specs.Model.{afterFailure}
 
 abbrev pub february : ℕ → Date
 february y = record { year = y; month = 2 }
@@ -20,6 +24,13 @@ cable i u c f = record { amperes = i; volts = u; cosine = c; phases = f }
 -- six hours, peaks at 1 and 3
 abbrev pub six : List ℕ
 six = 0 ∷ 1 ∷ 0 ∷ 3 ∷ 0 ∷ 2 ∷ []
+
+abbrev pub month : ℕ → ℕ → Date
+month y m = record { year = y; month = m }
+
+-- five missed months in a row, and a fault in a month before
+abbrev pub faulted : Date → Service
+faulted d = record { run = 5; serving = 1; denials = 0; fault = monthNumber d }
 
 pub record Examples : Type 0 where
   -- a) February: 2023 28 days, 2024 29, 2100 28, 2400 29
@@ -42,3 +53,9 @@ pub record Examples : Type 0 where
   pub i : peakRule 4 0 six ≡ 1 ∷ 0 ∷ 1 ∷ 0 ∷ 1 ∷ 1 ∷ []
   -- j) C 7, d 2: 4
   pub j : capacityOf 7 2 ≡ 4
+  -- k) A 6, n 2, d 1: C' 3 keeps the peak rule, C' 4 doesn't
+  pub k : (groundSix 6 1 2 3 ≡ false) × (groundSix 6 1 2 4 ≡ true)
+  -- l) faults in January 2023 and January 2024 repeat; with February 2024 they don't
+  pub l :
+      (afterFailure (faulted (month 2023 1)) (month 2024 1) 1 .run ≡ 0)
+      × (afterFailure (faulted (month 2023 1)) (month 2024 2) 1 .run ≡ 5)

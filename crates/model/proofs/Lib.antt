@@ -1,4 +1,5 @@
 pub mod Closes
+pub mod Examples
 pub mod GoesOn
 pub mod Keeps
 pub mod Laws

@@ -7,19 +7,20 @@ use native.Mathlib.Omega.{arith}
 use lib.ListN.{length, take, drop, replicate, length-replicate}
 use lib.Seq.{take-at, drop-at}
 use Rattle.numbers.specs.Lists.{zeros, padded, noneAbove}
-use Rattle.rows.specs.Store.{asRow, putRow, rowTakes, writtenIn, storeFits}
+use Rattle.sharing.specs.Shares.{rowFits}
+use Rattle.rows.specs.Store.{asRow, putRow, writtenIn, storeFits}
 use Rattle.numbers.proofs.Laws.{at-zeros, none-above-from}
 
 
 -- each limit, and one outside it
 pub limits :
-    (rowTakes 10416 13 744 ≡ true)
-    × (rowTakes 10416 0 0 ≡ true)
-    × (rowTakes 10416 14 0 ≡ false)
-    × (rowTakes 10416 0 745 ≡ false)
-    × (rowTakes 10415 0 0 ≡ false)
-    × (rowTakes 10417 0 0 ≡ false)
-unfolding rowTakes
+    (rowFits 10416 13 744 ≡ true)
+    × (rowFits 10416 0 0 ≡ true)
+    × (rowFits 10416 14 0 ≡ false)
+    × (rowFits 10416 0 745 ≡ false)
+    × (rowFits 10415 0 0 ≡ false)
+    × (rowFits 10417 0 0 ≡ false)
+unfolding rowFits
 limits = (refl, refl, refl, refl, refl, refl)
 
 -- hours as a row: 0 from their end on
@@ -36,7 +37,7 @@ puts = (refl, refl)
 
 -- a store that is not 14 rows stays as it was
 pub stays : (writtenIn 0 (7 ∷ []) (1 ∷ 2 ∷ []) ≡ 1 ∷ 2 ∷ []) × (writtenIn 0 [] [] ≡ [])
-unfolding writtenIn rowTakes
+unfolding writtenIn rowFits
 stays = (refl, refl)
 
 -- a word of rows 0 to 11

@@ -13,7 +13,9 @@ use lib.ListN.{length, take, drop, length-append, length-take, length-drop, leng
 use lib.Seq.{ext-getD, getD-take, getD-drop, getD-append-add, take-at, drop-at, length-take-le, take-all}
 use Rattle.numbers.specs.Lists.{tab, allTo, at, zeros, padded, noneAbove, Filled}
 use Rattle.numbers.proofs.Laws.{both, tab-at, none-above-at, none-above-from, at-zeros, at-more, filled-padded}
-use Rattle.rows.specs.Store.{asRow, putRow, rowTakes, writtenIn, emptyStore, storeFits}
+use Rattle.sharing.specs.Shares.{rowFits}
+use Rattle.sharing.proofs.Rule.{RowFits}
+use Rattle.rows.specs.Store.{asRow, putRow, writtenIn, emptyStore, storeFits}
 
 -- a list copied over the front of zeros
 pub copied : {d l : List ℕ} (m : ℕ) (xs : List ℕ) → Filled (at xs) d l (length xs) → d ≡ zeros m → l ≡ padded m xs
@@ -37,37 +39,25 @@ part-same a t xs ys e f =
     let m : k < t = omega (arith, length-take t (drop a xs)) in
     rw (getD-take t (drop a xs) k 0 m, getD-take t (drop a ys) k 0 m, getD-drop a xs k 0, getD-drop a ys k 0) (f (a + k) (omega arith) (omega arith))
 
--- a store that takes hours into a row has 14 rows, that one among them, and the hours fit
-pub record RowTakes (size r count : ℕ) : Type 0 where
-  pub words : size ≡ 10416
-  pub row : r ≤ 13
-  pub hours : count ≤ 744
-
-pub row-takes : (size r count : ℕ) → eqb size 10416 && leb r 13 && leb count 744 ≡ true → RowTakes size r count
-row-takes size r count e =
-    let p = both (eqb size 10416 && leb r 13) (leb count 744) e in
-    let q = both (eqb size 10416) (leb r 13) (p .0) in
-    record { words = eqb-true _ _ (q .0); row = leb-true _ _ (q .1); hours = leb-true _ _ (p .1) }
-
--- the same with no hours
-pub row-there : (size r : ℕ) → eqb size 10416 && leb r 13 ≡ true → RowTakes size r 0
+-- a store that has a row takes no hours into it
+pub row-there : (size r : ℕ) → eqb size 10416 && leb r 13 ≡ true → RowFits size r 0
 row-there size r e =
     let p = both (eqb size 10416) (leb r 13) e in
-    record { words = eqb-true _ _ (p .0); row = leb-true _ _ (p .1); hours = omega arith }
+    record { size = eqb-true _ _ (p .0); row = leb-true _ _ (p .1); hours = omega arith }
 
 -- and hours written into such a store make the row
 pub written-in : (r : ℕ) (hours store : List ℕ) → r ≤ 13 → length hours ≤ 744 → length store ≡ 10416 → writtenIn r hours store ≡ putRow r (asRow hours) store
-unfolding writtenIn rowTakes
+unfolding writtenIn rowFits
 written-in r hours store row long size = rw (eq-eqb (length store) 10416 size, le-leb r 13 row, le-leb (length hours) 744 long)
 
 -- the part of the store from the row's start to its end, filled and put back
-pub written-part : (r : ℕ) (hours store filled : List ℕ) → RowTakes (length store) r (length hours)
+pub written-part : (r : ℕ) (hours store filled : List ℕ) → RowFits (length store) r (length hours)
     → filled ≡ padded (length (take (744 * r + 744 - 744 * r) (drop (744 * r) store))) hours
     → take (744 * r) store ++ (filled ++ drop (744 * r + 744 - 744 * r) (drop (744 * r) store)) ≡ writtenIn r hours store
 unfolding putRow
 written-part r hours store filled takes e =
     let whole : length (take 744 (drop (744 * r) store)) ≡ 744 = simp (length-take, length-drop) (omega arith) in
-    rw (e, add-sub-cancel-left (744 * r) 744, whole, written-in r hours store (takes .row) (takes .hours) (takes .words))
+    rw (e, add-sub-cancel-left (744 * r) 744, whole, written-in r hours store (takes .row) (takes .hours) (takes .size))
 
 -- zeros are no hours, padded
 pub padded-none : (n : ℕ) {xs : List ℕ} → xs ≡ zeros n → xs ≡ padded n []

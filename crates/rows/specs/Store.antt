@@ -5,6 +5,7 @@ use mathlib.Core.List.{List, [], _++_}
 use lib.ListN.{length, take, drop}
 use lib.Dec.{eqb, leb}
 use Rattle.numbers.specs.Lists.{zeros, padded, noneAbove}
+use Rattle.sharing.specs.Shares.{rowFits}
 
 -- hours as a whole row: 0 from their end on
 abbrev pub asRow : List ℕ → List ℕ
@@ -21,13 +22,9 @@ withHours r hours store = putRow r (asRow hours) store
 abbrev pub withoutHours : ℕ → List ℕ → List ℕ
 withoutHours r store = withHours r [] store
 
--- whether a store has row r, and a row holds so many hours
-unfoldable pub rowTakes : ℕ → ℕ → ℕ → Bool
-rowTakes size r count = eqb size 10416 && leb r 13 && leb count 744
-
--- the store with hours written into row r, where it takes them
+-- the same where the store has that row and a row holds so many hours, else the store as it was
 unfoldable pub writtenIn : ℕ → List ℕ → List ℕ → List ℕ
-writtenIn r hours store = cond (rowTakes (length store) r (length hours)) (withHours r hours store) store
+writtenIn r hours store = cond (rowFits (length store) r (length hours)) (withHours r hours store) store
 
 -- as an opening leaves it
 abbrev pub emptyStore : List ℕ

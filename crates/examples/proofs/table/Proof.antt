@@ -1,7 +1,7 @@
 -- Every example by computation. Assumes nothing.
 use mathlib.Core.Path.{refl}
 use Rattle.numbers.specs.Rounding.{halfUp}
-use Rattle.calendar.specs.Calendar.{leapYear, isMonth, monthDays}
+use Rattle.calendar.specs.Calendar.{leapYear, isMonth, monthDays, monthNumber}
 use Rattle.sharing.specs.Shares.{portion, taken, spread, sharesOver, apartAt, sharesApart}
 use Rattle.power.specs.Power.{formula, sharedPower}
 use Rattle.marks.specs.Marks.{peakCount, capacityOf}
@@ -11,7 +11,7 @@ use Rattle.examples.proofs.table.Statement.{statement}
 use Rattle.examples.proofs.table.Tie as tie
 
 examples : Examples
-unfolding halfUp leapYear isMonth monthDays portion taken spread sharesOver apartAt sharesApart formula sharedPower peakCount capacityOf peakPart peakRule
+unfolding halfUp leapYear isMonth monthDays monthNumber portion taken spread sharesOver apartAt sharesApart formula sharedPower peakCount capacityOf peakPart peakRule
 examples = record {
   a = (refl, refl, refl, refl);
   b = refl;
@@ -23,6 +23,8 @@ examples = record {
   h = (refl, refl);
   i = refl;
   j = refl;
+  k = (refl, refl);
+  l = (refl, refl);
 }
 
 pub table-spec : {M : Type 1} → statement M

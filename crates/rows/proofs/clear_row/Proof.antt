@@ -3,8 +3,10 @@ use native.Mathlib.Omega.{arith}
 use borrow.Author.Needs.{needs}
 use lib.ListN.{length}
 use Rattle.numbers.proofs.clear.Reads as clear-reads
-use Rattle.rows.specs.Store.{rowTakes, writtenIn}
-use Rattle.rows.proofs.Laws.{RowTakes, row-there, written-part, padded-none}
+use Rattle.sharing.specs.Shares.{rowFits}
+use Rattle.sharing.proofs.Rule.{RowFits}
+use Rattle.rows.specs.Store.{writtenIn}
+use Rattle.rows.proofs.Laws.{row-there, written-part, padded-none}
 use Rattle.rows.proofs.clear_row.Reads as reads
 use Rattle.rows.proofs.clear_row.Lts as lts
 use Rattle.rows.proofs.clear_row.Statement.{statement}
@@ -12,11 +14,11 @@ use Rattle.rows.proofs.clear_row.Tie as tie
 
 -- what the test says where it holds
 there : (c : lts.Then1 (clear-reads.Asked, clear-reads.Learnt) reads.Pre reads.Post)
-    → let start = c .before .before .args in RowTakes (length (start .store .now)) (start .row) 0
+    → let start = c .before .before .args in RowFits (length (start .store .now)) (start .row) 0
 there c = row-there _ _ (c .if1 .taken)
 
 returns-2 : tie.Need-returns-2
-unfolding writtenIn rowTakes
+unfolding writtenIn rowFits
 returns-2 c = rw (c .if1 .left)
 
 pub clear-row-spec : {M : Type 1} → statement M

@@ -1,8 +1,10 @@
 use native.Mathlib.Omega.{arith}
 use borrow.Author.Needs.{needs}
 use lib.ListN.{length, length-take, length-drop}
-use Rattle.rows.specs.Store.{rowTakes, writtenIn}
-use Rattle.rows.proofs.Laws.{RowTakes, row-takes, written-part}
+use Rattle.sharing.specs.Shares.{rowFits}
+use Rattle.sharing.proofs.Rule.{RowFits, row-fits}
+use Rattle.rows.specs.Store.{writtenIn}
+use Rattle.rows.proofs.Laws.{written-part}
 use Rattle.rows.proofs.copy_row.Reads as copy-reads
 use Rattle.rows.proofs.write_row.Reads as reads
 use Rattle.rows.proofs.write_row.Lts as lts
@@ -11,11 +13,12 @@ use Rattle.rows.proofs.write_row.Tie as tie
 
 -- what the test says where it holds
 takes : (c : lts.Then1 (copy-reads.Asked, copy-reads.Learnt) reads.Pre reads.Post)
-    → let start = c .before .before .before .args in RowTakes (length (start .store .now)) (start .row) (length (start .hours .now))
-takes c = row-takes _ _ _ (c .if1 .taken)
+    → let start = c .before .before .before .args in RowFits (length (start .store .now)) (start .row) (length (start .hours .now))
+unfolding rowFits
+takes c = row-fits (c .if1 .taken)
 
 returns-2 : tie.Need-returns-2
-unfolding writtenIn rowTakes
+unfolding writtenIn rowFits
 returns-2 c = rw (c .if1 .left)
 
 pub write-row-spec : {M : Type 1} → statement M

@@ -1,0 +1,106 @@
+-- The rules on values: R, N, the test of ground 6, and the nine grounds with their volumes. By computation; assumes nothing.
+use Prim.Native.Nat.{ℕ}
+use mathlib.Core.Path.{_≡_, refl}
+use mathlib.Core.Bool.{true, false}
+use mathlib.Core.List.{List, [], _∷_}
+use lib.ListN.{set, length}
+use Rattle.numbers.specs.Lists.{zeros}
+use Rattle.numbers.specs.Rounding.{halfUp}
+use Rattle.calendar.specs.declared.Date.{Date}
+use Rattle.calendar.specs.Calendar.{leapYear, isMonth, monthDays, monthHours, openHours}
+use Rattle.sharing.specs.Shares.{portion, taken, spread, sharesOver, stretched}
+use Rattle.power.specs.declared.Cable.{Cable}
+use Rattle.power.specs.Power.{formula}
+use Rattle.marks.specs.Marks.{peakCount, workingDays, capacitySum, capacityOf}
+use Rattle.marks.specs.Peak.{peakPart}
+use Rattle.contract.specs.declared.Contract.{Contract}
+use Rattle.contract.specs.Contract.{noCable, powerOf}
+use Rattle.rules.specs.Rules.{Measured, missing, hourly, whole, Stated, unstated, stated, PastHours, none, some, Inputs, countedOf, neighbourOf, isMissed, asRead, byWeights, byPeaks, evenly, byContract, onPast, groundSix, groundSixIn, onControlPast, onControl, onBilling, rules, becomesPast, figures}
+
+-- R: the run plus 1, and 3 if that is less while denials are 2
+counts :
+    (countedOf 0 0 ≡ 1) × (countedOf 4 0 ≡ 5) × (countedOf 0 1 ≡ 1) × (countedOf 0 2 ≡ 3) × (countedOf 1 2 ≡ 3) × (countedOf 2 2 ≡ 3) × (countedOf 5 2 ≡ 6)
+unfolding countedOf
+counts = (refl, refl, refl, refl, refl, refl, refl)
+
+-- N: the first if given, even at 0, else the second, else 0
+neighbours :
+    (neighbourOf (stated 7) (stated 4) ≡ 7) × (neighbourOf (stated 0) (stated 4) ≡ 0) × (neighbourOf unstated (stated 4) ≡ 4) × (neighbourOf (stated 7) unstated ≡ 7)
+    × (neighbourOf unstated unstated ≡ 0)
+unfolding neighbourOf
+neighbours = (refl, refl, refl, refl, refl)
+
+-- ground 6 is not for marks without peak hours
+six : (groundSix 6 1 2 3 ≡ false) × (groundSix 6 1 2 4 ≡ true) × (groundSix 0 1 0 4 ≡ false) × (groundSix 0 1 1 0 ≡ false)
+six = (refl, refl, refl, refl)
+
+-- a closing of January 2023: contract, marks, R, billing and control readings, N, past
+abbrev agreed : ℕ → Contract
+agreed p = record { billing = 2; control = 2; basis = 1; power = record { 0 = p }; cable = noCable }
+
+abbrev cabled : Contract
+cabled = record { billing = 2; control = 2; basis = 3; power = record { 0 = 0 }; cable = record { amperes = 100; volts = 230; cosine = 0; phases = 3 } }
+
+abbrev january : Contract → List ℕ → ℕ → Measured → Measured → ℕ → PastHours → Inputs
+january c marks r b k n past =
+    record { contract = c; date = record { year = 2023; month = 1 }; marks = marks; counted = r; billing = b; control = k; neighbour = n; past = past }
+
+-- no marks; and one peak and capacity hour, hour 10
+abbrev plain : List ℕ
+plain = zeros 744
+
+abbrev marked : List ℕ
+marked = set (zeros 744) 10 3
+
+-- a past of 5 kWh, all in hour 10
+abbrev past : PastHours
+past = some (set (zeros 744) 10 5)
+
+-- ground and month volume
+abbrev Gives : Inputs → ℕ → ℕ → Type 0
+Gives i g v = (rules i .ground ≡ g) × (rules i .volume ≡ v)
+
+unfoldable working : Unit {0}
+unfolding rules onBilling onControl onControlPast onPast byContract evenly byPeaks byWeights asRead groundSixIn powerOf openHours monthHours monthDays isMonth leapYear formula halfUp
+    peakPart peakCount workingDays capacitySum capacityOf portion taken spread sharesOver stretched figures
+working = tt
+
+-- as read, and B - N, never below nil
+ground-1 : Gives (january (agreed 1) plain 1 (hourly (10 ∷ 20 ∷ [])) (whole 9) 4 past) 1 30
+unfolding working
+ground-1 = (refl, refl)
+
+ground-2 : Gives (january (agreed 1) plain 1 (whole 10) (whole 9) 4 past) 2 6 × Gives (january (agreed 1) plain 1 (whole 3) (whole 9) 4 past) 2 0
+unfolding working
+ground-2 = ((refl, refl), (refl, refl))
+
+ground-3 : Gives (january (agreed 1) plain 1 missing (hourly (5 ∷ [])) 4 past) 3 5
+unfolding working
+ground-3 = (refl, refl)
+
+-- with R 2 by the past; with R 3 by the peak rule, where no hour is a peak; and where there is no past
+ground-4 : Gives (january (agreed 1) plain 2 missing (whole 9) 2 past) 4 7
+unfolding working
+ground-4 = (refl, refl)
+
+ground-5 : Gives (january (agreed 1) plain 3 missing (whole 9) 2 past) 5 7 × Gives (january (agreed 1) plain 1 missing (whole 9) 2 none) 5 7
+unfolding working
+ground-5 = ((refl, refl), (refl, refl))
+
+-- A 1, n 1, d 1, C' 7: by the past; with P 7, A 7: the peak rule
+ground-6 : Gives (january (agreed 1) marked 3 missing (whole 9) 2 past) 6 7 × Gives (january (agreed 7) marked 3 missing (whole 9) 2 past) 5 7
+unfolding working
+ground-6 = ((refl, refl), (refl, refl))
+
+-- without a control reading: R 2 and a past; else the contract
+ground-7 : rules (january (agreed 1) plain 2 missing missing 4 past) .ground ≡ 7
+unfolding working
+ground-7 = refl
+
+ground-8 : Gives (january (agreed 5) plain 3 missing missing 4 past) 8 3720 × Gives (january (agreed 5) plain 1 missing missing 4 none) 8 3720
+unfolding working
+ground-8 = ((refl, refl), (refl, refl))
+
+ground-9 : Gives (january cabled plain 3 missing missing 0 past) 9 30802
+unfolding working
+ground-9 = (refl, refl)
