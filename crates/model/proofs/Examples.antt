@@ -17,13 +17,14 @@ use Rattle.record.specs.declared.Record.{Record}
 use Rattle.record.specs.declared.Service.{Service}
 use Rattle.record.specs.Record.{notGiven, givenAs, zeroRecord, freshRecord, freshService, withDate, withService, withReadings, withPast, withServing, withDenials, withBilling, withControl, withFirst, withSecond}
 use Rattle.record.specs.Valid.{volumeLimit, valid}
+use Rattle.rows.specs.Store.{storeFits}
 use Rattle.rules.specs.Calls.{Opening, Call, billingHours, controlHours, billingVolume, controlVolume, neighbour, failure, admission, denial, permission, closing}
 use Rattle.rules.specs.Rules.{PastHours, none, some}
 use Rattle.model.specs.Refusals.{refuse, anyone, ownRefusal, openRefusal}
 use Rattle.model.specs.Model.{State, state, isRepeat, afterFailure, pastIn, accept}
 
 unfoldable judging : Unit {0}
-unfolding refuse ownRefusal openRefusal valid volumeLimit noneAbove isMonth monthDays monthHours openHours leapYear monthNumber dateOf cableFits agreedFits listFits high crowded unmatched accept pastIn
+unfolding refuse ownRefusal openRefusal valid volumeLimit noneAbove storeFits isMonth monthDays monthHours openHours leapYear monthNumber dateOf cableFits agreedFits listFits high crowded unmatched accept pastIn
 judging = tt
 
 abbrev on : ℕ → ℕ → Date
