@@ -1,8 +1,11 @@
-// The C interface of the billing host: plain numbers in and out. The header is include/sallowbingo.h.
+// The C interface. The header is include/sallowbingo.h. Here are the two functions of the billing host, plain numbers in
+// and out; `calls` has the calls on a point.
 ghost use mathlib.Core.Path.{_≡_};
 ghost use Rattle.calendar.specs.Calendar.{monthDays};
 ghost use Rattle.power.specs.Power.{formulaIn};
 use calendar::Date;
+
+pub mod calls;
 
 // The cable formula for some hours, and 2^64 - 1 where a value is outside document 01's limits.
 #[no_mangle]
