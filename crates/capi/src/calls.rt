@@ -6,17 +6,17 @@ ghost use Rattle.model.specs.Model.{state, Does};
 ghost use Rattle.model.specs.Opening.{Opens};
 use calendar::Date;
 use contract::Contract;
+use events::admit;
+use events::deny;
+use events::fail;
+use events::permit;
 use model::Answer;
-use point::events::admit;
-use point::events::deny;
-use point::events::fail;
-use point::events::permit;
-use point::opening::open_point;
-use point::readings::read_billing_hours;
-use point::readings::read_billing_volume;
-use point::readings::read_control_hours;
-use point::readings::read_control_volume;
-use point::readings::read_neighbour;
+use opening::open_point;
+use readings::read_billing_hours;
+use readings::read_billing_volume;
+use readings::read_control_hours;
+use readings::read_control_volume;
+use readings::read_neighbour;
 use record::Record;
 use units::Kwh;
 
@@ -36,14 +36,22 @@ pub extern "C" fn sallowbingo_open_point(
 }
 
 #[no_mangle]
-pub extern "C" fn sallowbingo_read_billing_hours(r: Record, store: &mut [u32], hours: &[u32]) -> Answer
+pub extern "C" fn sallowbingo_read_billing_hours(
+    r: Record,
+    store: &mut [u32],
+    hours: &[u32],
+) -> Answer
     ensures { λ a. ⌜ Does (state r (now (store .entry))) (billingHours (now (hours .entry))) a (now (store .exit)) [] ⌝ }
 {
     read_billing_hours(r, store, hours)
 }
 
 #[no_mangle]
-pub extern "C" fn sallowbingo_read_control_hours(r: Record, store: &mut [u32], hours: &[u32]) -> Answer
+pub extern "C" fn sallowbingo_read_control_hours(
+    r: Record,
+    store: &mut [u32],
+    hours: &[u32],
+) -> Answer
     ensures { λ a. ⌜ Does (state r (now (store .entry))) (controlHours (now (hours .entry))) a (now (store .exit)) [] ⌝ }
 {
     read_control_hours(r, store, hours)
@@ -64,7 +72,12 @@ pub extern "C" fn sallowbingo_read_control_volume(r: Record, store: &[u32], volu
 }
 
 #[no_mangle]
-pub extern "C" fn sallowbingo_read_neighbour(r: Record, store: &[u32], source: u32, volume: Kwh) -> Answer
+pub extern "C" fn sallowbingo_read_neighbour(
+    r: Record,
+    store: &[u32],
+    source: u32,
+    volume: Kwh,
+) -> Answer
     ensures { λ a. ⌜ Does (state r (now (store .entry))) (neighbour source (volume .0)) a (now (store .entry)) [] ⌝ }
 {
     read_neighbour(r, store, source, volume)

@@ -21,8 +21,8 @@ use Rattle.record.specs.declared.Past.{Past}
 use Rattle.record.specs.declared.Reading.{Reading}
 use Rattle.record.specs.declared.Record.{Record}
 use Rattle.record.specs.Record.{isSet, noReadings, withRun}
-use Rattle.record.specs.Valid.{allOf, contractTests, yearFits, readingTests, volumeLimit, valid}
-use Rattle.record.proofs.Laws.{each, Valid, valid-parts, valid-from, service-parts, service-from, PastFits, past-parts, past-from, readings-parts, none-fit}
+use Rattle.validity.specs.Valid.{allOf, contractTests, yearFits, readingTests, volumeLimit, valid}
+use Rattle.validity.proofs.Laws.{each, Valid, valid-parts, valid-from, service-parts, service-from, PastFits, past-parts, past-from, readings-parts, none-fit}
 use Rattle.rows.specs.Store.{asRow, putRow, storeFits}
 use Rattle.rows.proofs.Laws.{length-row, length-put, put-fits-month, put-fits-past, row-part-fits, row-part-fits-month}
 use Rattle.rules.specs.Calls.{Call, closing}
@@ -240,9 +240,9 @@ closes s marks buffer f t room =
     let u = rules (inputs s marks) in
     let old : Stored (s .store) = record { words = f .words; fits = f .store-fits } in
     let store : Stored (rowsAfter (becomesPast u) (u .hours) d (s .store)) =
-        by-cases (becomesPast u)
-        (λ y. rw y (filed (slot d) (u .hours) (s .store) (slot-row d m) (omega (arith, right .long, month-hours d m, days-high d)) (right .small y) old))
-        (λ n. rw n old) in
+    by-cases (becomesPast u)
+    (λ y. rw y (filed (slot d) (u .hours) (s .store) (slot-row d m) (omega (arith, right .long, month-hours d m, days-high d)) (right .small y) old))
+    (λ n. rw n old) in
     let both-clear = cleared 13 _ (lit≤ tt) (lit≤ tt) (cleared 12 _ (lit≤ tt) (lit≤ tt) store) in
     record {
       record-fits =

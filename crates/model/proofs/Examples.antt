@@ -16,7 +16,7 @@ use Rattle.contract.specs.Contract.{noCable, kept}
 use Rattle.record.specs.declared.Record.{Record}
 use Rattle.record.specs.declared.Service.{Service}
 use Rattle.record.specs.Record.{notGiven, givenAs, zeroRecord, freshRecord, freshService, withDate, withService, withReadings, withPast, withServing, withDenials, withBilling, withControl, withFirst, withSecond}
-use Rattle.record.specs.Valid.{volumeLimit, valid}
+use Rattle.validity.specs.Valid.{volumeLimit, valid}
 use Rattle.rows.specs.Store.{storeFits}
 use Rattle.rules.specs.Calls.{Opening, Call, billingHours, controlHours, billingVolume, controlVolume, neighbour, failure, admission, denial, permission, closing}
 use Rattle.rules.specs.Rules.{PastHours, none, some}

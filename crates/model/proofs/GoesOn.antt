@@ -18,8 +18,8 @@ use Rattle.power.proofs.Laws.{power-most}
 use Rattle.contract.specs.declared.Contract.{Contract}
 use Rattle.contract.specs.Contract.{isBillingKind, isControlKind, isAgreed, noPower, noCable, kept}
 use Rattle.record.specs.Record.{noPast, freshService}
-use Rattle.record.specs.Valid.{allOf, contractTests, volumeLimit, valid}
-use Rattle.record.proofs.Laws.{all, valid-from, service-from, past-from, none-fit}
+use Rattle.validity.specs.Valid.{allOf, contractTests, volumeLimit, valid}
+use Rattle.validity.proofs.Laws.{all, valid-from, service-from, past-from, none-fit}
 use Rattle.rows.specs.Store.{emptyStore}
 use Rattle.rows.proofs.Laws.{fits-empty}
 use Rattle.rules.specs.Calls.{Opening, Call, billingHours, controlHours, billingVolume, controlVolume, neighbour, failure, admission, denial, permission, closing, isClosing, isFault}

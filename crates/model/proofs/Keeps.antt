@@ -16,8 +16,8 @@ use Rattle.record.specs.declared.Service.{Service}
 use Rattle.record.specs.declared.Readings.{Readings}
 use Rattle.record.specs.declared.Record.{Record}
 use Rattle.record.specs.Record.{isSet, notGiven, givenAs, withService, withReadings, withServing, withDenials, withBilling, withControl, withFirst, withSecond}
-use Rattle.record.specs.Valid.{volumeLimit, valid}
-use Rattle.record.proofs.Laws.{Valid, valid-parts, valid-from, ServiceFits, service-parts, service-from, ReadingsFit, readings-parts, readings-from, missing-fits, hours-fit, volume-fits}
+use Rattle.validity.specs.Valid.{volumeLimit, valid}
+use Rattle.validity.proofs.Laws.{Valid, valid-parts, valid-from, ServiceFits, service-parts, service-from, ReadingsFit, readings-parts, readings-from, missing-fits, hours-fit, volume-fits}
 use Rattle.rows.specs.Store.{asRow, putRow, storeFits}
 use Rattle.rows.proofs.Laws.{length-row, length-put, put-fits-month}
 use Rattle.rules.specs.Calls.{Call, billingHours, controlHours, billingVolume, controlVolume, neighbour, failure, admission, denial, permission, closing, isClosing, isFault}
@@ -244,16 +244,16 @@ keep-denial s f t =
     let v = valid-parts r (f .record-fits) in
     let h = old-service r v in
     let one : Fits (oneDenial s) =
-        kept s _ f
-        (with-service r (withDenials (r .service) (r .service .denials + 1)) v
-        (record {
-          run = h .run;
-          serving = h .serving;
-          denials = omega (arith, h .denials, eqb-false (r .service .denials) 2 q);
-          month = h .month;
-          before = h .before;
-        }))
-        (f .twelve) in
+    kept s _ f
+    (with-service r (withDenials (r .service) (r .service .denials + 1)) v
+    (record {
+      run = h .run;
+      serving = h .serving;
+      denials = omega (arith, h .denials, eqb-false (r .service .denials) 2 q);
+      month = h .month;
+      before = h .before;
+    }))
+    (f .twelve) in
     choice Fits (eqb (r .service .denials) 1) (discards (oneDenial s) one) one
 
 keep-permission : (s : State) → Fits s → accepted s permission ≡ true → Fits (accept s permission)

@@ -16,8 +16,8 @@ use Rattle.power.specs.Power.{agreedFits, cableFits, listFits, basisFits}
 use Rattle.contract.specs.Contract.{isBillingKind, isControlKind, isAgreed}
 use Rattle.record.specs.declared.Record.{Record}
 use Rattle.record.specs.Record.{zeroRecord}
-use Rattle.record.specs.Valid.{valid}
-use Rattle.record.proofs.Laws.{valid-parts}
+use Rattle.validity.specs.Valid.{valid}
+use Rattle.validity.proofs.Laws.{valid-parts}
 use Rattle.rules.specs.Calls.{Opening, Call, isClosing, bufferOf}
 use Rattle.rules.specs.Rules.{noFigures}
 use Rattle.model.specs.declared.Answer.{Answer}

@@ -12,7 +12,7 @@ use Rattle.contract.specs.Contract.{isBillingKind, isControlKind, isAgreed}
 use Rattle.record.specs.declared.Record.{Record}
 use Rattle.record.specs.declared.Service.{Service}
 use Rattle.record.specs.Record.{isSet}
-use Rattle.record.specs.Valid.{valid, volumeLimit}
+use Rattle.validity.specs.Valid.{valid, volumeLimit}
 use Rattle.rows.specs.Store.{storeFits}
 use Rattle.rules.specs.Calls.{Opening, Call, billingHours, controlHours, billingVolume, controlVolume, neighbour, failure, admission, denial, permission, closing}
 

@@ -4,7 +4,7 @@ use mathlib.Core.Path.{_≡_}
 use mathlib.Core.Bool.{true}
 use lib.ListN.{length}
 use Rattle.calendar.specs.Calendar.{monthNumber}
-use Rattle.record.specs.Valid.{valid}
+use Rattle.validity.specs.Valid.{valid}
 use Rattle.rows.specs.Store.{storeFits}
 use Rattle.rules.specs.Rules.{Outcome}
 use Rattle.model.specs.Model.{State}

@@ -3,10 +3,10 @@ ghost use mathlib.Core.Path.{_≡_};
 ghost use Rattle.model.specs.Refusals.{refuse, anyone, readers};
 ghost use Rattle.model.specs.Model.{quiet};
 use record::Record;
-use record::checks::is_valid;
 use rules::Figures;
 use units::Kw;
 use units::Kwh;
+use validity::is_valid;
 
 // The number of the refusal, 0 for none; the record after the call; and a closing's ground and figures, else 0.
 #[repr(C)]

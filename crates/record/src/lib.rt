@@ -9,7 +9,6 @@ use units::Kw;
 use units::Kwh;
 
 pub mod changes;
-pub mod checks;
 
 // The run of missed months, whether the point is in service, denials of access, and the month of the last fault by its
 // number, 0 for none. A flag is a number, 1 for yes and 0 for no, so that a record of any bits can be judged.

@@ -11,7 +11,6 @@ use Rattle.sharing.specs.Shares.{rowFits}
 use Rattle.rows.specs.Store.{asRow, putRow, writtenIn, storeFits}
 use Rattle.numbers.proofs.Laws.{at-zeros, none-above-from}
 
-
 -- each limit, and one outside it
 pub limits :
     (rowFits 10416 13 744 ≡ true)

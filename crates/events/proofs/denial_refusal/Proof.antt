@@ -1,0 +1,7 @@
+-- `events::denial_refusal` meets its contract. Assumes nothing.
+use borrow.Author.Needs.{needs}
+use Rattle.events.proofs.denial_refusal.Statement.{statement}
+use Rattle.events.proofs.denial_refusal.Tie as tie
+
+pub denial-refusal-spec : {M : Type 1} → statement M
+denial-refusal-spec = tie.close (tie.spec (λ c κs. search needs) (λ c κs. search needs) (λ c. cc))

@@ -1,0 +1,30 @@
+-- `events::deny` meets its contract. Assumes nothing.
+use borrow.Author.Needs.{needs}
+use borrow.Author.Tests.{eq-eqb, ne-eqb}
+use mathlib.Core.Path.{refl, _∙_}
+use native.Mathlib.Omega.{arith}
+use denote.Ref.{now}
+use lib.ListN.{length}
+use Rattle.model.proofs.Laws.{refused, done}
+use Rattle.model.specs.Model.{refusal, accept, figuresOf, hoursOut}
+use Rattle.model.specs.Refusals.{ownRefusal}
+use Rattle.events.proofs.Laws.{denials-few, row-cleared}
+use Rattle.rules.specs.Calls.Call.{denial}
+use Rattle.rules.specs.Calls.{bufferOf}
+use Rattle.events.proofs.deny.Statement.{statement}
+use Rattle.events.proofs.deny.Tie as tie
+
+pub deny-spec : {M : Type 1} → statement M
+unfolding bufferOf ownRefusal refusal accept figuresOf hoursOut
+deny-spec =
+    tie.close
+    (tie.spec
+    (λ c κs. search needs)
+    (λ c κs. search needs)
+    (λ c. refused _ denial (c .before .before .denial-refusal .ensures) (c .before .if1 .taken) (c .answer-with .ensures))
+    (λ c. omega (arith, denials-few (length (now (c .before .before .before .args .store))) (c .before .before .before .args .r) _ (c .before .denial-refusal .ensures) (c .if1 .left)))
+    (λ c κs. search needs)
+    (λ c. search needs)
+    (λ c. done _ denial (c .before .before .before .before .before .before .before .denial-refusal .ensures) (c .before .before .before .before .before .before .if1 .left) refl refl (rw (eq-eqb _ 1 (c .before .before .before .before .if2 .taken)) (c .before .before .discard .ensures .0)) (rw (eq-eqb _ 1 (c .before .before .before .before .if2 .taken)) (c .before .before .discard .ensures .1 ∙ row-cleared _ _ _ (c .before .before .before .before .before .before .before .denial-refusal .ensures) (c .before .before .before .before .before .before .if1 .left))))
+    (λ c κs. search needs)
+    (λ c. done _ denial (c .before .before .before .before .denial-refusal .ensures) (c .before .before .before .if1 .left) refl refl (rw (ne-eqb _ 1 (c .before .if2 .left)) (c .answer-with2 .ensures)) (rw (ne-eqb _ 1 (c .before .if2 .left)))))

@@ -1,0 +1,26 @@
+-- `events::fail` meets its contract. Assumes nothing.
+use borrow.Author.Needs.{needs}
+use mathlib.Core.Path.{refl, _∙_}
+use denote.Ref.{now}
+use lib.ListN.{length}
+use Rattle.model.proofs.Laws.{refused, done}
+use Rattle.model.specs.Model.{refusal, accept, figuresOf, hoursOut}
+use Rattle.model.specs.Refusals.{ownRefusal}
+use Rattle.events.proofs.Laws.{fault-small, row-cleared}
+use Rattle.rules.specs.Calls.Call.{failure}
+use Rattle.rules.specs.Calls.{bufferOf}
+use Rattle.events.proofs.fail.Statement.{statement}
+use Rattle.events.proofs.fail.Tie as tie
+
+pub fail-spec : {M : Type 1} → statement M
+unfolding bufferOf ownRefusal refusal accept figuresOf hoursOut
+fail-spec =
+    tie.close
+    (tie.spec
+    (λ c κs. search needs)
+    (λ c κs. search needs)
+    (λ c. refused _ (failure _) (c .before .before .failure-refusal .ensures) (c .before .if1 .taken) (c .answer-with .ensures))
+    (λ c κs. fault-small (length (now (c .before .before .before .args .store))) (c .before .before .before .args .r) _ (c .before .failure-refusal .ensures) (c .if1 .left))
+    (λ c κs. search needs)
+    (λ c. search needs)
+    (λ c. done _ (failure _) (c .before .before .before .before .before .before .failure-refusal .ensures) (c .before .before .before .before .before .if1 .left) refl refl (rw (c .before .before .before .before .after-failure .ensures) at (c .before .before .discard .ensures .0)) (c .before .before .discard .ensures .1 ∙ row-cleared _ _ _ (c .before .before .before .before .before .before .failure-refusal .ensures) (c .before .before .before .before .before .if1 .left))))

@@ -1,0 +1,21 @@
+-- `events::permit` meets its contract. Assumes nothing.
+use borrow.Author.Needs.{needs}
+use mathlib.Core.Path.{refl}
+use Rattle.model.proofs.Laws.{refused, done}
+use Rattle.model.specs.Model.{refusal, accept, figuresOf, hoursOut}
+use Rattle.model.specs.Refusals.{ownRefusal}
+use Rattle.rules.specs.Calls.Call.{permission}
+use Rattle.rules.specs.Calls.{bufferOf}
+use Rattle.events.proofs.permit.Statement.{statement}
+use Rattle.events.proofs.permit.Tie as tie
+
+pub permit-spec : {M : Type 1} → statement M
+unfolding bufferOf ownRefusal refusal accept figuresOf hoursOut
+permit-spec =
+    tie.close
+    (tie.spec
+    (λ c κs. search needs)
+    (λ c κs. search needs)
+    (λ c. refused _ permission (c .before .before .permission-refusal .ensures) (c .before .if1 .taken) (c .answer-with .ensures))
+    (λ c κs. search needs)
+    (λ c. done _ permission (c .before .before .before .permission-refusal .ensures) (c .before .before .if1 .left) refl refl (c .answer-with2 .ensures) refl))

@@ -1,7 +1,0 @@
--- `point::readings::control_hours_refusal` meets its contract. Assumes nothing.
-use borrow.Author.Needs.{needs}
-use Rattle.point.proofs.readings.control_hours_refusal.Statement.{statement}
-use Rattle.point.proofs.readings.control_hours_refusal.Tie as tie
-
-pub control-hours-refusal-spec : {M : Type 1} → statement M
-control-hours-refusal-spec = tie.close (tie.spec (λ c κs. search needs) (λ c κs. search needs) (λ c. cc))

@@ -1,0 +1,13 @@
+-- `readings::billing_hours_refusal` meets its contract. Assumes nothing.
+use borrow.Author.Needs.{needs}
+use Rattle.readings.proofs.billing_hours_refusal.Statement.{statement}
+use Rattle.readings.proofs.billing_hours_refusal.Tie as tie
+
+pub billing-hours-refusal-spec : {M : Type 1} → statement M
+billing-hours-refusal-spec =
+    tie.close
+    (tie.spec
+    (λ c κs. search needs)
+    (λ c κs. search needs)
+    (λ c κs. search needs)
+    (λ c. cc))

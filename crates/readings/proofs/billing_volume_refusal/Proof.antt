@@ -1,0 +1,13 @@
+-- `readings::billing_volume_refusal` meets its contract. Assumes nothing.
+use borrow.Author.Needs.{needs}
+use Rattle.readings.proofs.billing_volume_refusal.Statement.{statement}
+use Rattle.readings.proofs.billing_volume_refusal.Tie as tie
+
+pub billing-volume-refusal-spec : {M : Type 1} → statement M
+billing-volume-refusal-spec =
+    tie.close
+    (tie.spec
+    (λ c κs. search needs)
+    (λ c κs. search needs)
+    (λ c κs. search needs)
+    (λ c. cc))

@@ -1,7 +1,0 @@
--- `record::checks::service_fits` meets its contract. Assumes nothing.
-use borrow.Author.Needs.{needs}
-use Rattle.record.proofs.checks.service_fits.Statement.{statement}
-use Rattle.record.proofs.checks.service_fits.Tie as tie
-
-pub service-fits-spec : {M : Type 1} → statement M
-service-fits-spec = tie.close (tie.spec (λ c κs. search needs) (λ c. cc))

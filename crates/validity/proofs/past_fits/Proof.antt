@@ -1,0 +1,13 @@
+-- `validity::past_fits` meets its contract. Assumes nothing.
+use borrow.Author.Needs.{needs}
+use Rattle.validity.proofs.past_fits.Statement.{statement}
+use Rattle.validity.proofs.past_fits.Tie as tie
+
+pub past-fits-spec : {M : Type 1} → statement M
+past-fits-spec =
+    tie.close
+    (tie.spec
+    (λ c κs. search needs)
+    (λ c κs. search needs)
+    (λ c κs. search needs)
+    (λ c. cc))

@@ -1,0 +1,14 @@
+-- `validity::readings_fit` meets its contract. Assumes nothing.
+use borrow.Author.Needs.{needs}
+use Rattle.validity.proofs.readings_fit.Statement.{statement}
+use Rattle.validity.proofs.readings_fit.Tie as tie
+
+pub readings-fit-spec : {M : Type 1} → statement M
+readings-fit-spec =
+    tie.close
+    (tie.spec
+    (λ c κs. search needs)
+    (λ c κs. search needs)
+    (λ c κs. search needs)
+    (λ c κs. search needs)
+    (λ c. cc))
