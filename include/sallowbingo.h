@@ -1,11 +1,13 @@
-/* Sallowbingo: the functions that a billing host calls on plain numbers.
+/* Sallowbingo: one electricity delivery point, month by month, and the two
+ * functions that a billing host calls on plain numbers.
  *
  * Every function ends on every input and needs no check beforehand: a value
- * outside the limits gives the refusal value named here. Nothing is allocated
- * and no state is kept. */
+ * outside the limits gives the refusal named here. Nothing is allocated and no
+ * state is kept but the record and the store, which are the caller's. */
 #ifndef SALLOWBINGO_H
 #define SALLOWBINGO_H
 
+#include <stddef.h>
 #include <stdint.h>
 
 #ifdef __cplusplus
@@ -39,6 +41,119 @@ uint64_t sallowbingo_cable_formula(uint64_t amperes, uint64_t volts, uint64_t co
 /* The length of a month in days: January 2014 to December 2999, months 1 to 12.
  * Any other month gives 0. */
 uint32_t sallowbingo_month_days(uint64_t year, uint64_t month);
+
+/* A POINT
+ *
+ * The record goes in and comes back by value; the store is the caller's, an
+ * array of SALLOWBINGO_STORE words, lent with its length. Flags are 1 for yes
+ * and 0 for no; any other value is outside the limits, as is every other field
+ * of any bits, and refused with 2. Months in a record are numbers, year * 12 +
+ * month. */
+
+#define SALLOWBINGO_STORE 10416u
+
+/* A power in kW, and a volume in kWh. */
+typedef struct {
+    uint32_t kw;
+} sallowbingo_kw;
+
+typedef struct {
+    uint64_t kwh;
+} sallowbingo_kwh;
+
+typedef struct {
+    uint32_t year, month;
+} sallowbingo_date;
+
+typedef struct {
+    uint32_t amperes, volts, cosine, phases;
+} sallowbingo_cable;
+
+/* billing: 1 interval, 2 integral; control: 0 none, 1 interval, 2 integral;
+ * basis: 1 an agreed power, 2 a share of one, 3 a cable. */
+typedef struct {
+    uint32_t billing, control, basis;
+    sallowbingo_kw power;
+    sallowbingo_cable cable;
+} sallowbingo_contract;
+
+/* run of missed months, in service, denials, month of the last fault */
+typedef struct {
+    uint32_t run, serving, denials;
+    uint64_t fault;
+} sallowbingo_service;
+
+/* the year that the row of each calendar month holds, and the latest past month */
+typedef struct {
+    uint32_t years[12];
+    uint64_t latest;
+} sallowbingo_past;
+
+typedef struct {
+    uint32_t given;
+    sallowbingo_kwh volume;
+} sallowbingo_reading;
+
+typedef struct {
+    sallowbingo_reading billing, control, first, second;
+} sallowbingo_readings;
+
+typedef struct {
+    uint32_t opened;
+    sallowbingo_contract contract;
+    sallowbingo_date date;
+    sallowbingo_service service;
+    sallowbingo_past past;
+    sallowbingo_readings readings;
+    sallowbingo_kwh total;
+} sallowbingo_record;
+
+/* ground, month volume, capacity, C and d of a closing, else 0 */
+typedef struct {
+    uint32_t ground;
+    sallowbingo_kwh volume;
+    sallowbingo_kw capacity;
+    sallowbingo_kwh sum;
+    uint64_t days;
+} sallowbingo_figures;
+
+/* The number of the refusal, 0 for none; the record after the call, which is
+ * the record given where it was refused; and the figures. */
+typedef struct {
+    uint32_t refusal;
+    sallowbingo_record after;
+    sallowbingo_figures figures;
+} sallowbingo_answer;
+
+/* Opens a point and clears the store. On basis 1 or 2 the power asked for is
+ * the agreed one; on basis 2 it is shared by the currents of the points' cables,
+ * and place is the point's place in that list, counted from 0. A refused opening
+ * gives a record of zeros. Refusals: 1, 10 to 14. */
+sallowbingo_answer sallowbingo_open_point(sallowbingo_contract asked, sallowbingo_date date, const uint32_t *currents,
+                                          size_t points, size_t place, uint32_t *store, size_t words);
+
+/* This month's readings, once a month each: the hours of an interval meter, or
+ * the volume of an integral one. Refusals: 1 to 3, 20 to 24. */
+sallowbingo_answer sallowbingo_read_billing_hours(sallowbingo_record record, uint32_t *store, size_t words,
+                                                  const uint32_t *hours, size_t count);
+sallowbingo_answer sallowbingo_read_control_hours(sallowbingo_record record, uint32_t *store, size_t words,
+                                                  const uint32_t *hours, size_t count);
+sallowbingo_answer sallowbingo_read_billing_volume(sallowbingo_record record, const uint32_t *store, size_t words,
+                                                   sallowbingo_kwh volume);
+sallowbingo_answer sallowbingo_read_control_volume(sallowbingo_record record, const uint32_t *store, size_t words,
+                                                   sallowbingo_kwh volume);
+
+/* A neighbour's volume: source 1 its billing meter, 2 its control meter. */
+sallowbingo_answer sallowbingo_read_neighbour(sallowbingo_record record, const uint32_t *store, size_t words,
+                                              uint32_t source, sallowbingo_kwh volume);
+
+/* The network firm: a failure of reason 1 fault, 2 loss, 3 verification
+ * interval over, 4 taken down; an admission; a denial of access; a permission.
+ * Refusals: 1 to 3, 30 to 34. */
+sallowbingo_answer sallowbingo_fail(sallowbingo_record record, uint32_t *store, size_t words, uint32_t reason);
+sallowbingo_answer sallowbingo_admit(sallowbingo_record record, const uint32_t *store, size_t words);
+sallowbingo_answer sallowbingo_deny(sallowbingo_record record, uint32_t *store, size_t words);
+sallowbingo_answer sallowbingo_permit(sallowbingo_record record, const uint32_t *store, size_t words);
 
 #ifdef __cplusplus
 }

@@ -3,21 +3,10 @@
 #define _DEFAULT_SOURCE
 #include "sallowbingo.h"
 
-#include <stdio.h>
+#include "check.h"
+
 #include <string.h>
 #include <time.h>
-
-/* One test to each CHECK in the text, however often it runs; one that is never reached fails. */
-#define MOST 100
-static int runs[MOST], wrong[MOST];
-#define CHECK(x) check((x), __COUNTER__, __LINE__, #x)
-
-static void check(int ok, int at, int line, const char *text) {
-    if (!ok && !wrong[at]++) printf("FAIL %s:%d: %s\n", __FILE__, line, text);
-    runs[at]++;
-}
-
-#define COUNT(a) (sizeof(a) / sizeof(*(a)))
 
 /* The formula, rounded half up: the whole part of twice the quotient plus one, halved. */
 static uint64_t formula(uint64_t amperes, uint64_t volts, uint64_t cosine, uint64_t phases, uint64_t hours) {
@@ -126,14 +115,5 @@ int main(void) {
     every_month();
     months_outside();
     month_examples();
-    enum { CHECKS = __COUNTER__ };
-    _Static_assert(CHECKS <= MOST, "more checks than places for them");
-    int passed = 0, failed = 0;
-    for (int at = 0; at < CHECKS; at++) {
-        if (!runs[at]) printf("FAIL %s: check %d is never reached\n", __FILE__, at);
-        if (runs[at] && !wrong[at]) passed++;
-        else failed++;
-    }
-    printf("%d passed, %d failed\n", passed, failed);
-    return failed != 0;
+    return check_tally();
 }
