@@ -1,17 +1,17 @@
 -- A point goes on: an accepted closing works by inputs of which the rules are right, and leaves a record that passes number 2 and a store that passes 1 and 45. Assumes nothing.
 use Prim.Native.Nat.{ℕ, _+_, _-_, _*_, _/_, _%_, _≤_, _<_}
-use mathlib.Core.Path.{_≡_, refl, sym, _∙_}
-use mathlib.Core.Bool.{Bool, true, false, not, cond, _&&_, _||_}
+use mathlib.Core.Path.{_≡_, _∙_}
+use mathlib.Core.Bool.{Bool, true, false, not, _&&_, _||_}
 use mathlib.Core.List.{List, []}
 use native.Mathlib.Omega.{arith}
 use borrow.Author.Tests.{eqb-true, eqb-false, eq-eqb, ne-eqb, leb-true, le-leb, lt-ltb, ltb-true, not-false}
 use lib.Dec.{eqb, leb, ltb, lit≤, lit<}
-use lib.ListN.{length, take, drop, set, length-drop, length-set}
+use lib.ListN.{length, drop, set, length-drop, length-set}
 use lib.Seq.{getD-set-same, getD-set-other, length-take-le}
-use Rattle.numbers.specs.Lists.{at, allTo, noneAbove}
-use Rattle.numbers.proofs.Laws.{by-cases, both, first-of, cond-most, all-at, all-from}
+use Rattle.numbers.specs.Lists.{at, noneAbove}
+use Rattle.numbers.proofs.Laws.{by-cases, both, cond-most, all-at, all-from}
 use Rattle.calendar.specs.declared.Date.{Date}
-use Rattle.calendar.specs.Calendar.{isMonth, isEnd, monthDays, monthHours, openHours, monthNumber, isMonthNumber, yearOf, placeOf, dateOf, nextMonth}
+use Rattle.calendar.specs.Calendar.{isMonth, monthDays, monthHours, openHours, monthNumber, isMonthNumber, yearOf, placeOf, dateOf, nextMonth}
 use Rattle.calendar.proofs.Laws.{limits, days-low, days-high, open-next, number-next}
 use Rattle.sharing.specs.Shares.{rowPart}
 use Rattle.marks.specs.Marks.{high, crowded, unmatched}
@@ -20,17 +20,17 @@ use Rattle.contract.specs.declared.Contract.{Contract}
 use Rattle.record.specs.declared.Past.{Past}
 use Rattle.record.specs.declared.Reading.{Reading}
 use Rattle.record.specs.declared.Record.{Record}
-use Rattle.record.specs.Record.{isSet, noReadings, withRun}
-use Rattle.validity.specs.Valid.{allOf, contractTests, yearFits, readingTests, volumeLimit, valid}
-use Rattle.validity.proofs.Laws.{each, Valid, valid-parts, valid-from, service-parts, service-from, PastFits, past-parts, past-from, readings-parts, none-fit}
+use Rattle.record.specs.Record.{isSet, withRun}
+use Rattle.validity.specs.Valid.{allOf, contractTests, yearFits, readingTests, volumeLimit}
+use Rattle.validity.proofs.Laws.{each, valid-parts, valid-from, service-parts, service-from, PastFits, past-parts, past-from, readings-parts, none-fit}
 use Rattle.rows.specs.Store.{asRow, putRow, storeFits}
 use Rattle.rows.proofs.Laws.{length-row, length-put, put-fits-month, put-fits-past, row-part-fits, row-part-fits-month}
-use Rattle.rules.specs.Calls.{Call, closing}
-use Rattle.rules.specs.Rules.{Measured, missing, hourly, whole, PastHours, none, some, Inputs, Outcome, hoursIn, rules, becomesPast}
-use Rattle.rules.specs.Right.{Right, HoursFit, MeasuredFits, PastHoursFit, Sane}
+use Rattle.rules.specs.Calls.{closing}
+use Rattle.rules.specs.Rules.{whole, some, rules, becomesPast}
+use Rattle.rules.specs.Right.{HoursFit, MeasuredFits, PastHoursFit, Sane}
 use Rattle.rules.proofs.Sums.{rules-right}
 use Rattle.model.specs.Refusals.{ownRefusal}
-use Rattle.model.specs.Model.{State, measuredIn, slot, lastYear, hoursOf, pastIn, inputs, pastAfter, runAfter, rowsAfter, closedWith, accept, accepted}
+use Rattle.model.specs.Model.{State, measuredIn, slot, lastYear, pastIn, inputs, pastAfter, runAfter, rowsAfter, closedWith, accept, accepted}
 use Rattle.model.specs.Sound.{Fits, Room}
 use Rattle.model.proofs.Laws.{skip}
 use Rattle.model.proofs.Keeps.{own, open-month, no-hours}

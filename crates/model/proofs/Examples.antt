@@ -3,25 +3,25 @@ use Prim.Native.Nat.{ℕ}
 use mathlib.Core.Path.{_≡_, refl}
 use mathlib.Core.Bool.{true, false}
 use mathlib.Core.List.{List, [], _∷_, _++_}
-use lib.ListN.{set, length, replicate}
+use lib.ListN.{set, replicate}
 use Rattle.numbers.specs.Lists.{zeros, noneAbove}
 use Rattle.calendar.specs.declared.Date.{Date}
 use Rattle.calendar.specs.Calendar.{leapYear, isMonth, monthDays, monthHours, openHours, monthNumber, dateOf}
 use Rattle.sharing.specs.Shares.{portion, taken, spread, sharesOver}
 use Rattle.power.specs.declared.Cable.{Cable}
-use Rattle.power.specs.Power.{cableFits, agreedFits, listFits, sharedPower, powerOn, formula}
+use Rattle.power.specs.Power.{cableFits, agreedFits, listFits, sharedPower, powerOn}
 use Rattle.marks.specs.Marks.{high, crowded, unmatched}
 use Rattle.contract.specs.declared.Contract.{Contract}
 use Rattle.contract.specs.Contract.{noCable, kept}
 use Rattle.record.specs.declared.Record.{Record}
 use Rattle.record.specs.declared.Service.{Service}
-use Rattle.record.specs.Record.{notGiven, givenAs, zeroRecord, freshRecord, freshService, withDate, withService, withReadings, withPast, withServing, withDenials, withBilling, withControl, withFirst, withSecond}
+use Rattle.record.specs.Record.{givenAs, zeroRecord, freshRecord, freshService, withDate, withService, withReadings, withPast, withServing, withDenials, withBilling, withControl, withFirst, withSecond}
 use Rattle.validity.specs.Valid.{volumeLimit, valid}
 use Rattle.rows.specs.Store.{storeFits}
 use Rattle.rules.specs.Calls.{Opening, Call, billingHours, controlHours, billingVolume, controlVolume, neighbour, failure, admission, denial, permission, closing}
-use Rattle.rules.specs.Rules.{PastHours, none, some}
+use Rattle.rules.specs.Rules.{none, some}
 use Rattle.model.specs.Refusals.{refuse, anyone, ownRefusal, openRefusal}
-use Rattle.model.specs.Model.{State, state, isRepeat, afterFailure, pastIn, accept}
+use Rattle.model.specs.Model.{state, isRepeat, afterFailure, pastIn, accept}
 
 unfoldable judging : Unit {0}
 unfolding refuse ownRefusal openRefusal valid volumeLimit noneAbove storeFits isMonth monthDays monthHours openHours leapYear monthNumber dateOf cableFits agreedFits listFits high crowded unmatched accept pastIn
@@ -178,10 +178,14 @@ denials :
 unfolding judging
 denials = (refl, refl, refl)
 
--- THE PAST: no row of January 2014 holds 2013; last year's row; a row of two years ago is the past only as the latest
+-- THE PAST: no row of January 2014 holds 2013; a row of two years ago is no past but as the latest; last year's row goes before the latest, with last year's hours
+abbrev filled : Date → List ℕ → ℕ → State
+filled d years latest = state (withPast (withDate (point 1 2) d) (record { years = years; latest = latest })) (replicate 744 1 ++ replicate 744 2)
+
 pasts :
-    (pastIn (state (withDate (point 1 2) (on 2014 1)) []) ≡ none)
-    × (pastIn (state (withPast (point 1 2) (record { years = set (zeros 12) 1 2021; latest = 0 })) []) ≡ none)
-    × (pastIn (state (withPast (point 1 2) (record { years = set (zeros 12) 1 2022; latest = 24277 })) (replicate 744 1 ++ replicate 744 2)) ≡ some (replicate 672 2))
+    (pastIn (filled (on 2014 1) (zeros 12) 0) ≡ none) × (pastIn (filled (on 2025 2) (set (zeros 12) 1 2023) 0) ≡ none)
+    × (pastIn (filled (on 2025 2) (set (zeros 12) 1 2023) 24278) ≡ some (replicate 672 2))
+    × (pastIn (filled (on 2025 2) (set (set (zeros 12) 1 2024) 0 2025) 24301) ≡ some (replicate 696 2))
+    × (pastIn (filled (on 2025 2) (set (zeros 12) 0 2025) 24301) ≡ some (replicate 744 1))
 unfolding judging
-pasts = (refl, refl, refl)
+pasts = (refl, refl, refl, refl, refl)

@@ -1,34 +1,31 @@
 -- A POINT GOES ON: an accepted opening leaves a sound state, and every accepted call keeps it sound, closings included. Assumes nothing.
-use Prim.Native.Nat.{ℕ, _+_, _-_, _*_, _≤_, _<_, zero-le}
-use mathlib.Core.Path.{_≡_, refl, sym, _∙_}
-use mathlib.Core.Bool.{Bool, true, false, not, cond, _&&_, _||_, false≢true}
+use Prim.Native.Nat.{ℕ, _-_, _≤_, zero-le}
+use mathlib.Core.Path.{_≡_, refl, sym}
+use mathlib.Core.Bool.{true, false, not, _&&_, _||_, false≢true}
 use mathlib.Core.List.{List}
 use native.Mathlib.Omega.{arith}
 use borrow.Author.Tests.{eqb-true, le-leb}
-use lib.Dec.{eqb, leb, lit≤}
+use lib.Dec.{eqb, lit≤}
 use lib.ListN.{length, length-replicate}
-use Rattle.numbers.specs.Lists.{allTo, at}
+use Rattle.numbers.specs.Lists.{at}
 use Rattle.numbers.proofs.Laws.{by-cases, both, cond-most}
-use Rattle.calendar.specs.declared.Date.{Date}
-use Rattle.calendar.specs.Calendar.{isMonth, isOpen, monthNumber, nextMonth}
+use Rattle.calendar.specs.Calendar.{monthNumber}
 use Rattle.calendar.proofs.Laws.{number-next}
 use Rattle.power.specs.declared.Cable.{Cable}
-use Rattle.power.specs.Power.{cableFits, agreedFits, listFits, basisFits, powerOn}
+use Rattle.power.specs.Power.{cableFits, basisFits}
 use Rattle.power.proofs.Laws.{power-most}
-use Rattle.contract.specs.declared.Contract.{Contract}
-use Rattle.contract.specs.Contract.{isBillingKind, isControlKind, isAgreed, noPower, noCable, kept}
+use Rattle.contract.specs.Contract.{isAgreed, kept}
 use Rattle.record.specs.Record.{noPast, freshService}
-use Rattle.validity.specs.Valid.{allOf, contractTests, volumeLimit, valid}
+use Rattle.validity.specs.Valid.{allOf, contractTests, volumeLimit}
 use Rattle.validity.proofs.Laws.{all, valid-from, service-from, past-from, none-fit}
-use Rattle.rows.specs.Store.{emptyStore}
 use Rattle.rows.proofs.Laws.{fits-empty}
 use Rattle.rules.specs.Calls.{Opening, Call, billingHours, controlHours, billingVolume, controlVolume, neighbour, failure, admission, denial, permission, closing, isClosing, isFault}
-use Rattle.rules.specs.Rules.{Outcome, hoursIn, rules, becomesPast}
+use Rattle.rules.specs.Rules.{rules, becomesPast}
 use Rattle.rules.proofs.Sums.{rules-right}
 use Rattle.model.specs.Refusals.{openRefusal}
-use Rattle.model.specs.Model.{State, discarded, oneDenial, isRepeat, inputs, closedWith, accept, accepted}
+use Rattle.model.specs.Model.{State, isRepeat, inputs, closedWith, accept, accepted}
 use Rattle.model.specs.Opening.{opens, opened}
-use Rattle.model.specs.Sound.{Fits, Room, elapsed, Sound}
+use Rattle.model.specs.Sound.{Room, Sound}
 use Rattle.model.proofs.Laws.{Allowed, allowed}
 use Rattle.model.proofs.Keeps.{own, open-month, keeps}
 use Rattle.model.proofs.Closes.{number-limits, inputs-sane, closes}

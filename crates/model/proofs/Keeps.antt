@@ -1,30 +1,30 @@
 -- A point goes on: each accepted call that does not close the month leaves a record that passes number 2 and a store that passes 1 and 45. Assumes nothing.
 use Prim.Native.Nat.{ℕ, _+_, _*_, _≤_, _<_}
-use mathlib.Core.Path.{_≡_, refl, sym, _∙_}
+use mathlib.Core.Path.{_≡_, refl}
 use mathlib.Core.Bool.{Bool, true, false, not, cond, _&&_, _||_, true≢false}
 use mathlib.Core.List.{List, []}
 use native.Mathlib.Omega.{arith}
 use borrow.Author.Tests.{eqb-true, eqb-false, le-leb, ltb-false, not-false}
-use lib.Dec.{eqb, leb, ltb, lit≤}
+use lib.Dec.{eqb, lit≤}
 use lib.ListN.{length}
 use Rattle.numbers.specs.Lists.{noneAbove}
 use Rattle.numbers.proofs.Laws.{by-cases, first-of, cond-most}
 use Rattle.calendar.specs.declared.Date.{Date}
 use Rattle.calendar.specs.Calendar.{isMonth, isEnd, monthNumber, isMonthNumber}
-use Rattle.calendar.proofs.Laws.{Limits, limits}
+use Rattle.calendar.proofs.Laws.{limits}
 use Rattle.record.specs.declared.Service.{Service}
 use Rattle.record.specs.declared.Readings.{Readings}
 use Rattle.record.specs.declared.Record.{Record}
-use Rattle.record.specs.Record.{isSet, notGiven, givenAs, withService, withReadings, withServing, withDenials, withBilling, withControl, withFirst, withSecond}
+use Rattle.record.specs.Record.{notGiven, givenAs, withService, withReadings, withServing, withDenials, withBilling, withControl, withFirst, withSecond}
 use Rattle.validity.specs.Valid.{volumeLimit, valid}
 use Rattle.validity.proofs.Laws.{Valid, valid-parts, valid-from, ServiceFits, service-parts, service-from, ReadingsFit, readings-parts, readings-from, missing-fits, hours-fit, volume-fits}
-use Rattle.rows.specs.Store.{asRow, putRow, storeFits}
+use Rattle.rows.specs.Store.{asRow, putRow}
 use Rattle.rows.proofs.Laws.{length-row, length-put, put-fits-month}
 use Rattle.rules.specs.Calls.{Call, billingHours, controlHours, billingVolume, controlVolume, neighbour, failure, admission, denial, permission, closing, isClosing, isFault}
-use Rattle.model.specs.Refusals.{isBarred, notMonth, hourAbove, volumeAbove, sourceGiven, isSource, ownRefusal}
-use Rattle.model.specs.Model.{State, state, discarded, withSource, isRepeat, afterFailure, oneDenial, accept, refusal, accepted}
+use Rattle.model.specs.Refusals.{ownRefusal}
+use Rattle.model.specs.Model.{State, state, discarded, isRepeat, afterFailure, oneDenial, accept, refusal, accepted}
 use Rattle.model.specs.Sound.{Fits}
-use Rattle.model.proofs.Laws.{skip, Passed, passed, Read, read, month-most}
+use Rattle.model.proofs.Laws.{skip, Passed, passed, read, month-most}
 use lib.Dec.{lit<}
 
 -- what the acceptance of a call tells

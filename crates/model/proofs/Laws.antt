@@ -18,11 +18,11 @@ use Rattle.record.specs.declared.Record.{Record}
 use Rattle.record.specs.Record.{zeroRecord}
 use Rattle.validity.specs.Valid.{valid}
 use Rattle.validity.proofs.Laws.{valid-parts}
-use Rattle.rules.specs.Calls.{Opening, Call, isClosing, bufferOf}
+use Rattle.rules.specs.Calls.{Opening, Call, bufferOf}
 use Rattle.rules.specs.Rules.{noFigures}
 use Rattle.model.specs.declared.Answer.{Answer}
-use Rattle.model.specs.Refusals.{refuse, anyone, readers, notMonth, hourAbove, openRefusal}
-use Rattle.model.specs.Model.{State, state, accept, refusal, accepted, leaves, quiet, figuresOf, hoursOut, answer, bufferAfter, Does}
+use Rattle.model.specs.Refusals.{refuse, anyone, readers, notMonth, openRefusal}
+use Rattle.model.specs.Model.{State, accept, refusal, accepted, leaves, quiet, figuresOf, hoursOut, answer, bufferAfter, Does}
 use Rattle.model.specs.Opening.{opens, opened, openLeaves, openAnswer, Opens}
 
 -- no number: the test did not apply, and the rest of the list gives none either

@@ -1,17 +1,17 @@
 -- What holds of the store and of its rows, word by word. Assumes nothing.
-use mathlib.Core.Path.{_≡_, refl, sym, _∙_}
+use mathlib.Core.Path.{_≡_, sym, _∙_}
 use mathlib.Core.Logic.{_⊎_, ⊎-elim}
-use mathlib.Core.List.{List, [], _∷_, _++_}
-use mathlib.Core.Bool.{Bool, true, _&&_}
-use Prim.Native.Nat.{ℕ, zero, suc, _+_, _-_, _*_, _≤_, _<_}
-use native.Mathlib.Nat.{le-refl, le-step, sub-zero, add-sub-cancel-left}
+use mathlib.Core.List.{List, [], _++_}
+use mathlib.Core.Bool.{true, _&&_}
+use Prim.Native.Nat.{ℕ, _+_, _-_, _*_, _≤_, _<_}
+use native.Mathlib.Nat.{sub-zero, add-sub-cancel-left}
 use native.Mathlib.Omega.{arith}
 use native.Mathlib.Decide.{decLt}
 use borrow.Author.Tests.{eq-eqb, le-leb, eqb-true, leb-true}
 use lib.Dec.{eqb, leb}
 use lib.ListN.{length, take, drop, length-append, length-take, length-drop, length-replicate, List·getD-append}
 use lib.Seq.{ext-getD, getD-take, getD-drop, getD-append-add, take-at, drop-at, length-take-le, take-all}
-use Rattle.numbers.specs.Lists.{tab, allTo, at, zeros, padded, noneAbove, Filled}
+use Rattle.numbers.specs.Lists.{at, zeros, padded, noneAbove, Filled}
 use Rattle.numbers.proofs.Laws.{both, tab-at, none-above-at, none-above-from, at-zeros, at-more, filled-padded}
 use Rattle.sharing.specs.Shares.{rowFits}
 use Rattle.sharing.proofs.Rule.{RowFits}

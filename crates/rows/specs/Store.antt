@@ -3,7 +3,6 @@ use Prim.Native.Nat.{ℕ, _*_}
 use mathlib.Core.Bool.{Bool, cond, _&&_}
 use mathlib.Core.List.{List, [], _++_}
 use lib.ListN.{length, take, drop}
-use lib.Dec.{eqb, leb}
 use Rattle.numbers.specs.Lists.{zeros, padded, noneAbove}
 use Rattle.sharing.specs.Shares.{rowFits}
 

@@ -3,19 +3,17 @@ use Prim.Native.Nat.{ℕ}
 use mathlib.Core.Path.{_≡_, refl}
 use mathlib.Core.Bool.{true, false}
 use mathlib.Core.List.{List, [], _∷_}
-use lib.ListN.{set, length}
+use lib.ListN.{set}
 use Rattle.numbers.specs.Lists.{zeros}
 use Rattle.numbers.specs.Rounding.{halfUp}
-use Rattle.calendar.specs.declared.Date.{Date}
 use Rattle.calendar.specs.Calendar.{leapYear, isMonth, monthDays, monthHours, openHours}
 use Rattle.sharing.specs.Shares.{portion, taken, spread, sharesOver, stretched}
-use Rattle.power.specs.declared.Cable.{Cable}
 use Rattle.power.specs.Power.{formula}
 use Rattle.marks.specs.Marks.{peakCount, workingDays, capacitySum, capacityOf}
 use Rattle.marks.specs.Peak.{peakPart}
 use Rattle.contract.specs.declared.Contract.{Contract}
 use Rattle.contract.specs.Contract.{noCable, powerOf}
-use Rattle.rules.specs.Rules.{Measured, missing, hourly, whole, Stated, unstated, stated, PastHours, none, some, Inputs, countedOf, neighbourOf, isMissed, asRead, byWeights, byPeaks, evenly, byContract, onPast, groundSix, groundSixIn, onControlPast, onControl, onBilling, rules, becomesPast, figures}
+use Rattle.rules.specs.Rules.{Measured, missing, hourly, whole, unstated, stated, PastHours, none, some, Inputs, countedOf, neighbourOf, asRead, byWeights, byPeaks, evenly, byContract, onPast, groundSix, groundSixIn, onControlPast, onControl, onBilling, rules, figures}
 
 -- R: the run plus 1, and 3 if that is less while denials are 2
 counts :

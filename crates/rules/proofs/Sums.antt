@@ -1,26 +1,25 @@
 -- The rules are right of every input that a point can bring: the hours are those of the month, sum to the volume, and each is near its exact share. Assumes nothing.
-use Prim.Native.Nat.{ℕ, _+_, _-_, _*_, _≤_, _<_}
+use Prim.Native.Nat.{ℕ, _-_, _*_, _≤_, _<_}
 use mathlib.Core.Path.{_≡_, refl, sym, _∙_}
-use mathlib.Core.Bool.{Bool, true, false, not, cond, _&&_, _||_, true≢false}
+use mathlib.Core.Bool.{true, false, not, _||_, true≢false}
 use mathlib.Core.List.{List}
 use native.Mathlib.Omega.{arith}
 use native.Mathlib.Nat.{mul-comm, mul-le-mul, mul-le-mul-left, mul-one}
 use lib.Dec.{eqb, leb, ltb, lit≤}
 use lib.ListN.{length}
-use Rattle.numbers.specs.Lists.{tab, sumTo, sum, at, noneAbove}
+use Rattle.numbers.specs.Lists.{tab, sum, at, noneAbove}
 use Rattle.numbers.proofs.Laws.{by-cases, length-tab, at-tab, sum-most, cond-most, sum-at, none-above-at, none-above-from}
 use Rattle.sharing.specs.Shares.{ones, one, every, shares, pastAt, stretched}
-use Rattle.sharing.proofs.Laws.{Near}
 use Rattle.sharing.proofs.Rule.{length-shares, sum-shares, near-shares}
 use Rattle.power.specs.Power.{formula}
 use Rattle.power.proofs.Laws.{formula-most}
-use Rattle.marks.specs.Marks.{peakAt, peakCount, crowded}
-use Rattle.marks.specs.Peak.{peakPart, peakRule}
+use Rattle.marks.specs.Marks.{peakAt, peakCount}
+use Rattle.marks.specs.Peak.{peakRule}
 use Rattle.marks.proofs.Laws.{peaks-most}
 use Rattle.marks.proofs.Rule.{sum-peak-rule, length-peak-rule, peak-rule-most, peak-near, other-near}
 use Rattle.contract.specs.Contract.{powerOf}
-use Rattle.rules.specs.Rules.{Measured, missing, hourly, whole, PastHours, none, some, Inputs, Share, Outcome, hoursIn, pointPower, asRead, byWeights, byPeaks, evenly, byContract, onPast, groundSixIn, onControlPast, onControl, onBilling, rules, becomesPast, isMissed}
-use Rattle.rules.specs.Right.{NearShare, Right, HoursFit, MeasuredFits, PastHoursFit, Sane}
+use Rattle.rules.specs.Rules.{Measured, missing, hourly, whole, PastHours, none, some, Inputs, hoursIn, pointPower, asRead, byWeights, byPeaks, evenly, byContract, onPast, groundSixIn, onControlPast, onControl, onBilling, rules, becomesPast, isMissed}
+use Rattle.rules.specs.Right.{Right, MeasuredFits, PastHoursFit, Sane}
 
 -- the sum of a month's hours of at most k each
 sum-hours : (hs : List ℕ) (k : ℕ) → noneAbove k hs ≡ true → sum hs ≤ k * length hs
@@ -52,7 +51,7 @@ by-weights g v t ws other e any l =
           let n = near-shares v every ws hours h (omega arith) in
           record { below = n .below; above = n .above };
       most = l;
-      small = λ y. absurd (true≢false (sym y ∙ other));
+      small = λ y. let late : becomesPast (byWeights g v ws) ≡ false = other in absurd (true≢false (sym y ∙ late));
     }
 
 -- a month of whole days

@@ -9,11 +9,10 @@ use Rattle.calendar.specs.Calendar.{leapYear, isMonth, monthDays, monthHours, o
 use Rattle.power.specs.declared.Cable.{Cable}
 use Rattle.power.specs.Power.{cableFits}
 use Rattle.contract.specs.declared.Contract.{Contract}
-use Rattle.contract.specs.Contract.{noPower, noCable}
-use Rattle.record.specs.declared.Past.{Past}
+use Rattle.contract.specs.Contract.{noCable}
 use Rattle.record.specs.declared.Reading.{Reading}
 use Rattle.record.specs.declared.Record.{Record}
-use Rattle.record.specs.Record.{kwh, notGiven, givenAs, noReadings, noPast, zeroRecord, freshRecord, withContract, withDate, withService, withPast, withReadings, withServing, withDenials, withRun, withBilling, withControl, withFirst, withSecond}
+use Rattle.record.specs.Record.{kwh, notGiven, givenAs, noReadings, noPast, zeroRecord, freshRecord, withContract, withDate, withService, withPast, withReadings, withServing, withDenials, withRun}
 use Rattle.validity.specs.Valid.{volumeLimit, valid}
 
 unfoldable Passes : Record → Type 0

@@ -1,19 +1,18 @@
 -- What number 2 tells of a record that passes it, and how a record passes it. Assumes nothing.
 use Prim.Native.Nat.{ℕ, _≤_, zero-le}
-use mathlib.Core.Path.{_≡_, refl, sym, _∙_}
+use mathlib.Core.Path.{_≡_, refl}
 use mathlib.Core.Bool.{Bool, true, false, not, _&&_, _||_, false≢true}
 use mathlib.Core.List.{List, [], _∷_}
 use native.Mathlib.Omega.{arith}
 use borrow.Author.Tests.{leb-true, le-leb, eqb-true}
-use lib.Dec.{leb, ltb, eqb, lit≤}
+use lib.Dec.{leb, ltb, eqb}
 use Rattle.numbers.specs.Lists.{allTo, at}
-use Rattle.numbers.proofs.Laws.{by-cases, both, first-of, all-at}
+use Rattle.numbers.proofs.Laws.{by-cases, both}
 use Rattle.calendar.specs.declared.Date.{Date}
 use Rattle.calendar.specs.Calendar.{isOpen, monthNumber, isMonthNumber, yearOf, placeOf}
 use Rattle.contract.specs.declared.Contract.{Contract}
 use Rattle.record.specs.declared.Service.{Service}
 use Rattle.record.specs.declared.Past.{Past}
-use Rattle.record.specs.declared.Reading.{Reading}
 use Rattle.record.specs.declared.Readings.{Readings}
 use Rattle.record.specs.declared.Record.{Record}
 use Rattle.record.specs.Record.{isSet, notGiven, givenAs, noReadings}

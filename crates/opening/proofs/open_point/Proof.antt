@@ -1,7 +1,7 @@
 -- `opening::open_point` meets its contract. Assumes nothing.
 use borrow.Author.Needs.{needs}
 use borrow.Author.Tests.{eq-eqb}
-use mathlib.Core.Path.{ap, sym, _∙_}
+use mathlib.Core.Path.{sym, _∙_}
 use Rattle.model.proofs.Laws.{allowed, not-opened, now-opened}
 use Rattle.model.specs.Opening.{opened}
 use Rattle.opening.proofs.Laws.{kept-is}
