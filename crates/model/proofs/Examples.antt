@@ -21,7 +21,7 @@ use Rattle.rows.specs.Store.{storeFits}
 use Rattle.rules.specs.Calls.{Opening, Call, billingHours, controlHours, billingVolume, controlVolume, neighbour, failure, admission, denial, permission, closing}
 use Rattle.rules.specs.Rules.{none, some}
 use Rattle.model.specs.Refusals.{refuse, anyone, ownRefusal, openRefusal}
-use Rattle.model.specs.Model.{state, isRepeat, afterFailure, pastIn, accept}
+use Rattle.model.specs.Model.{State, state, isRepeat, afterFailure, pastIn, accept}
 
 unfoldable judging : Unit {0}
 unfolding refuse ownRefusal openRefusal valid volumeLimit noneAbove storeFits isMonth monthDays monthHours openHours leapYear monthNumber dateOf cableFits agreedFits listFits high crowded unmatched accept pastIn
