@@ -11,4 +11,4 @@ after-failure-spec =
     (λ c. search needs)
     (λ c κs. search needs)
     (λ c κs. search needs)
-    (λ c. cc))
+    (λ c. rw (c .pick-wide .ensures, c .before .pick .ensures, c .before .before .before .before .month-number .ensures)))

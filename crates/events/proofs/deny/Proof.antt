@@ -6,7 +6,7 @@ use native.Mathlib.Omega.{arith}
 use denote.Ref.{now}
 use lib.ListN.{length}
 use Rattle.model.proofs.Laws.{refused, done}
-use Rattle.model.specs.Model.{refusal, accept, figuresOf, hoursOut}
+use Rattle.model.specs.Model.{state, refusal, accept, figuresOf, hoursOut}
 use Rattle.model.specs.Refusals.{ownRefusal}
 use Rattle.events.proofs.Laws.{denials-few, row-cleared}
 use Rattle.rules.specs.Calls.Call.{denial}
@@ -21,10 +21,17 @@ deny-spec =
     (tie.spec
     (λ c κs. search needs)
     (λ c κs. search needs)
-    (λ c. refused _ denial (c .before .before .denial-refusal .ensures) (c .before .if1 .taken) (c .answer-with .ensures))
+    (λ c. let a = c .before .before .before .before .args in
+    refused (state (a .r) (now (a .store))) denial (c .before .before .denial-refusal .ensures) (c .before .if1 .taken) (c .answer-with .ensures))
     (λ c. omega (arith, denials-few (length (now (c .before .before .before .args .store))) (c .before .before .before .args .r) _ (c .before .denial-refusal .ensures) (c .if1 .left)))
     (λ c κs. search needs)
     (λ c. search needs)
-    (λ c. done _ denial (c .before .before .before .before .before .before .before .denial-refusal .ensures) (c .before .before .before .before .before .before .if1 .left) refl refl (rw (eq-eqb _ 1 (c .before .before .before .before .if2 .taken)) (c .before .before .discard .ensures .0)) (rw (eq-eqb _ 1 (c .before .before .before .before .if2 .taken)) (c .before .before .discard .ensures .1 ∙ row-cleared _ _ _ (c .before .before .before .before .before .before .before .denial-refusal .ensures) (c .before .before .before .before .before .before .if1 .left))))
+    (λ c. let p = c .before .before .before .before .before .before in
+    let a = p .before .before .before .args in
+    let t = eq-eqb (a .r .service .denials) 1 (c .before .before .before .before .if2 .taken) in
+    done (state (a .r) (now (a .store))) denial (p .before .denial-refusal .ensures) (p .if1 .left) refl refl (rw t (c .before .before .discard .ensures .0)) (rw t (c .before .before .discard .ensures .1 ∙ row-cleared _ _ _ (p .before .denial-refusal .ensures) (p .if1 .left))))
     (λ c κs. search needs)
-    (λ c. done _ denial (c .before .before .before .before .denial-refusal .ensures) (c .before .before .before .if1 .left) refl refl (rw (ne-eqb _ 1 (c .before .if2 .left)) (c .answer-with2 .ensures)) (rw (ne-eqb _ 1 (c .before .if2 .left)))))
+    (λ c. let p = c .before .before .before in
+    let a = p .before .before .before .args in
+    let f = ne-eqb (a .r .service .denials) 1 (c .before .if2 .left) in
+    done (state (a .r) (now (a .store))) denial (p .before .denial-refusal .ensures) (p .if1 .left) refl refl (rw f (c .answer-with2 .ensures)) (rw f)))

@@ -4,7 +4,7 @@ use mathlib.Core.Path.{refl, _∙_}
 use denote.Ref.{now}
 use lib.ListN.{length}
 use Rattle.model.proofs.Laws.{refused, done}
-use Rattle.model.specs.Model.{refusal, accept, figuresOf, hoursOut}
+use Rattle.model.specs.Model.{state, refusal, accept, figuresOf, hoursOut}
 use Rattle.model.specs.Refusals.{ownRefusal}
 use Rattle.events.proofs.Laws.{fault-small, row-cleared}
 use Rattle.rules.specs.Calls.Call.{failure}
@@ -19,8 +19,11 @@ fail-spec =
     (tie.spec
     (λ c κs. search needs)
     (λ c κs. search needs)
-    (λ c. refused _ (failure _) (c .before .before .failure-refusal .ensures) (c .before .if1 .taken) (c .answer-with .ensures))
+    (λ c. let a = c .before .before .before .before .args in
+    refused (state (a .r) (now (a .store))) (failure _) (c .before .before .failure-refusal .ensures) (c .before .if1 .taken) (c .answer-with .ensures))
     (λ c κs. fault-small (length (now (c .before .before .before .args .store))) (c .before .before .before .args .r) _ (c .before .failure-refusal .ensures) (c .if1 .left))
     (λ c κs. search needs)
     (λ c. search needs)
-    (λ c. done _ (failure _) (c .before .before .before .before .before .before .failure-refusal .ensures) (c .before .before .before .before .before .if1 .left) refl refl (rw (c .before .before .before .before .after-failure .ensures) at (c .before .before .discard .ensures .0)) (c .before .before .discard .ensures .1 ∙ row-cleared _ _ _ (c .before .before .before .before .before .before .failure-refusal .ensures) (c .before .before .before .before .before .if1 .left))))
+    (λ c. let p = c .before .before .before .before .before in
+    let a = p .before .before .before .args in
+    done (state (a .r) (now (a .store))) (failure _) (p .before .failure-refusal .ensures) (p .if1 .left) refl refl (rw (c .before .before .before .before .after-failure .ensures) at (c .before .before .discard .ensures .0)) (c .before .before .discard .ensures .1 ∙ row-cleared _ _ _ (p .before .failure-refusal .ensures) (p .if1 .left))))

@@ -10,4 +10,4 @@ failure-refusal-spec =
     (λ c κs. search needs)
     (λ c κs. search needs)
     (λ c κs. search needs)
-    (λ c. cc))
+    (λ c. rw (c .refuse-anyone .ensures, c .before .refuse-if2 .ensures, c .before .before .before .refuse-if .ensures)))

@@ -1,8 +1,9 @@
 -- `events::permit` meets its contract. Assumes nothing.
 use borrow.Author.Needs.{needs}
 use mathlib.Core.Path.{refl}
+use denote.Ref.{now}
 use Rattle.model.proofs.Laws.{refused, done}
-use Rattle.model.specs.Model.{refusal, accept, figuresOf, hoursOut}
+use Rattle.model.specs.Model.{state, refusal, accept, figuresOf, hoursOut}
 use Rattle.model.specs.Refusals.{ownRefusal}
 use Rattle.rules.specs.Calls.Call.{permission}
 use Rattle.rules.specs.Calls.{bufferOf}
@@ -16,6 +17,9 @@ permit-spec =
     (tie.spec
     (λ c κs. search needs)
     (λ c κs. search needs)
-    (λ c. refused _ permission (c .before .before .permission-refusal .ensures) (c .before .if1 .taken) (c .answer-with .ensures))
+    (λ c. let a = c .before .before .before .before .args in
+    refused (state (a .r) (now (a .store))) permission (c .before .before .permission-refusal .ensures) (c .before .if1 .taken) (c .answer-with .ensures))
     (λ c κs. search needs)
-    (λ c. done _ permission (c .before .before .before .permission-refusal .ensures) (c .before .before .if1 .left) refl refl (c .answer-with2 .ensures) refl))
+    (λ c. let p = c .before .before in
+    let a = p .before .before .before .args in
+    done (state (a .r) (now (a .store))) permission (p .before .permission-refusal .ensures) (p .if1 .left) refl refl (c .answer-with2 .ensures) refl))

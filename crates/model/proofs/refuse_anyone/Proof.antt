@@ -11,4 +11,4 @@ refuse-anyone-spec =
     (λ c κs. search needs)
     (λ c κs. search needs)
     (λ c κs. search needs)
-    (λ c. cc))
+    (λ c. rw (c .refuse-if3 .ensures, c .before .refuse-if2 .ensures, c .before .before .is-valid .ensures, c .before .before .before .refuse-if .ensures)))

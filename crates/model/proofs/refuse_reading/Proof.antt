@@ -12,4 +12,4 @@ refuse-reading-spec =
     (λ c κs. search needs)
     (λ c κs. search needs)
     (λ c κs. search needs)
-    (λ c. cc))
+    (λ c. rw (c .refuse-if5 .ensures, c .before .refuse-if4 .ensures, c .before .before .refuse-if3 .ensures, c .before .before .before .refuse-if2 .ensures, c .before .before .before .before .refuse-if .ensures)))

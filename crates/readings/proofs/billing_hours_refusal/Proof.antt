@@ -10,4 +10,4 @@ billing-hours-refusal-spec =
     (λ c κs. search needs)
     (λ c κs. search needs)
     (λ c κs. search needs)
-    (λ c. cc))
+    (λ c. rw (c .refuse-anyone .ensures, c .before .refuse-hours .ensures, c .before .before .is-barred .ensures)))

@@ -10,4 +10,4 @@ billing-volume-refusal-spec =
     (λ c κs. search needs)
     (λ c κs. search needs)
     (λ c κs. search needs)
-    (λ c. cc))
+    (λ c. rw (c .refuse-anyone .ensures, c .before .refuse-volume .ensures, c .before .before .is-barred .ensures)))

@@ -1,8 +1,9 @@
 -- `readings::read_billing_volume` meets its contract. Assumes nothing.
 use borrow.Author.Needs.{needs}
 use mathlib.Core.Path.{refl}
+use denote.Ref.{now}
 use Rattle.model.proofs.Laws.{refused, done}
-use Rattle.model.specs.Model.{refusal, accept, figuresOf, hoursOut}
+use Rattle.model.specs.Model.{state, refusal, accept, figuresOf, hoursOut}
 use Rattle.model.specs.Refusals.{ownRefusal}
 use Rattle.rules.specs.Calls.Call.{billingVolume}
 use Rattle.rules.specs.Calls.{bufferOf}
@@ -16,8 +17,11 @@ read-billing-volume-spec =
     (tie.spec
     (λ c κs. search needs)
     (λ c κs. search needs)
-    (λ c. refused _ (billingVolume _) (c .before .before .billing-volume-refusal .ensures) (c .before .if1 .taken) (c .answer-with .ensures))
+    (λ c. let a = c .before .before .before .before .args in
+    refused (state (a .r) (now (a .store))) (billingVolume _) (c .before .before .billing-volume-refusal .ensures) (c .before .if1 .taken) (c .answer-with .ensures))
     (λ c κs. search needs)
     (λ c κs. search needs)
     (λ c κs. search needs)
-    (λ c. done _ (billingVolume _) (c .before .before .before .before .billing-volume-refusal .ensures) (c .before .before .before .if1 .left) refl refl (rw (c .before .with-billing .ensures, c .before .before .given-as .ensures) at (c .answer-with2 .ensures)) refl))
+    (λ c. let p = c .before .before .before in
+    let a = p .before .before .before .args in
+    done (state (a .r) (now (a .store))) (billingVolume _) (p .before .billing-volume-refusal .ensures) (p .if1 .left) refl refl (rw (c .before .with-billing .ensures, c .before .before .given-as .ensures) at (c .answer-with2 .ensures)) refl))

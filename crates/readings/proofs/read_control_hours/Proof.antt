@@ -2,8 +2,9 @@
 use borrow.Author.Needs.{needs}
 use lib.Dec.{lit≤}
 use mathlib.Core.Path.{refl, _∙_}
+use denote.Ref.{now}
 use Rattle.model.proofs.Laws.{refused, done}
-use Rattle.model.specs.Model.{refusal, accept, figuresOf, hoursOut}
+use Rattle.model.specs.Model.{state, refusal, accept, figuresOf, hoursOut}
 use Rattle.model.specs.Refusals.{ownRefusal}
 use Rattle.readings.proofs.Laws.{hours-written}
 use Rattle.rules.specs.Calls.Call.{controlHours}
@@ -18,10 +19,13 @@ read-control-hours-spec =
     (tie.spec
     (λ c κs. search needs)
     (λ c κs. search needs)
-    (λ c. refused _ (controlHours _) (c .before .before .control-hours-refusal .ensures) (c .before .if1 .taken) (c .answer-with .ensures))
+    (λ c. let a = c .before .before .before .before .before .args in
+    refused (state (a .r) (now (a .store))) (controlHours _) (c .before .before .control-hours-refusal .ensures) (c .before .if1 .taken) (c .answer-with .ensures))
     (λ c κs. search needs)
     (λ c κs. search needs)
     (λ c κs. search needs)
     (λ c κs. search needs)
     (λ c. search needs)
-    (λ c. done _ (controlHours _) (c .before .before .before .before .before .before .before .before .control-hours-refusal .ensures) (c .before .before .before .before .before .before .before .if1 .left) refl refl (rw (c .before .with-control .ensures, c .before .before .given-hours .ensures) at (c .answer-with2 .ensures)) (c .before .before .before .before .before .write-row .ensures ∙ hours-written _ _ _ _ _ _ (lit≤ tt) (c .before .before .before .before .before .before .before .before .control-hours-refusal .ensures) (c .before .before .before .before .before .before .before .if1 .left))))
+    (λ c. let p = c .before .before .before .before .before .before .before in
+    let a = p .before .before .before .before .args in
+    done (state (a .r) (now (a .store))) (controlHours _) (p .before .control-hours-refusal .ensures) (p .if1 .left) refl refl (rw (c .before .with-control .ensures, c .before .before .given-hours .ensures) at (c .answer-with2 .ensures)) (c .before .before .before .before .before .write-row .ensures ∙ hours-written _ _ _ _ _ _ (lit≤ tt) (p .before .control-hours-refusal .ensures) (p .if1 .left))))

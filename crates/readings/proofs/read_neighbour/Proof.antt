@@ -2,8 +2,9 @@
 use borrow.Author.Needs.{needs}
 use borrow.Author.Tests.{eq-eqb, ne-eqb}
 use mathlib.Core.Path.{refl}
+use denote.Ref.{now}
 use Rattle.model.proofs.Laws.{refused, done}
-use Rattle.model.specs.Model.{refusal, accept, figuresOf, hoursOut}
+use Rattle.model.specs.Model.{state, refusal, accept, figuresOf, hoursOut}
 use Rattle.model.specs.Refusals.{ownRefusal}
 use Rattle.rules.specs.Calls.Call.{neighbour}
 use Rattle.rules.specs.Calls.{bufferOf}
@@ -17,11 +18,16 @@ read-neighbour-spec =
     (tie.spec
     (λ c κs. search needs)
     (λ c κs. search needs)
-    (λ c. refused _ (neighbour _ _) (c .before .before .neighbour-refusal .ensures) (c .before .if1 .taken) (c .answer-with .ensures))
+    (λ c. let a = c .before .before .before .before .args in
+    refused (state (a .r) (now (a .store))) (neighbour _ _) (c .before .before .neighbour-refusal .ensures) (c .before .if1 .taken) (c .answer-with .ensures))
     (λ c κs. search needs)
     (λ c κs. search needs)
     (λ c κs. search needs)
-    (λ c. done _ (neighbour _ _) (c .before .before .before .before .before .neighbour-refusal .ensures) (c .before .before .before .before .if1 .left) refl refl (rw (eq-eqb _ 1 (c .before .before .if2 .taken)) (rw (c .before .with-first .ensures, c .before .before .before .given-as .ensures) at (c .answer-with2 .ensures))) refl)
+    (λ c. let p = c .before .before .before .before in
+    let a = p .before .before .before .args in
+    done (state (a .r) (now (a .store))) (neighbour _ _) (p .before .neighbour-refusal .ensures) (p .if1 .left) refl refl (rw (eq-eqb (a .source) 1 (c .before .before .if2 .taken)) (rw (c .before .with-first .ensures, c .before .before .before .given-as .ensures) at (c .answer-with2 .ensures))) refl)
     (λ c κs. search needs)
     (λ c κs. search needs)
-    (λ c. done _ (neighbour _ _) (c .before .before .before .before .before .neighbour-refusal .ensures) (c .before .before .before .before .if1 .left) refl refl (rw (ne-eqb _ 1 (c .before .before .if2 .left)) (rw (c .before .with-second .ensures, c .before .before .before .given-as .ensures) at (c .answer-with3 .ensures))) refl))
+    (λ c. let p = c .before .before .before .before in
+    let a = p .before .before .before .args in
+    done (state (a .r) (now (a .store))) (neighbour _ _) (p .before .neighbour-refusal .ensures) (p .if1 .left) refl refl (rw (ne-eqb (a .source) 1 (c .before .before .if2 .left)) (rw (c .before .with-second .ensures, c .before .before .before .given-as .ensures) at (c .answer-with3 .ensures))) refl))

@@ -11,4 +11,4 @@ refuse-hours-spec =
     (λ c. search needs)
     (λ c κs. search needs)
     (λ c κs. search needs)
-    (λ c. cc))
+    (λ c. rw (c .refuse-reading .ensures, c .before .none-above .ensures, c .before .before .open-hours .ensures)))

@@ -15,4 +15,4 @@ is-valid-spec =
     (λ c κs. search needs)
     (λ c κs. search needs)
     (λ c κs. search needs)
-    (λ c. cc))
+    (λ c. rw (c .before .readings-fit .ensures, c .before .before .volume-limit .ensures, c .before .before .before .past-fits .ensures, c .before .before .before .before .service-fits .ensures, c .before .before .before .before .before .is-open .ensures, c .before .before .before .before .before .before .contract-fits .ensures)))

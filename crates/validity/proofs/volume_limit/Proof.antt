@@ -12,4 +12,4 @@ volume-limit-spec =
     (λ c κs. search needs)
     (λ c κs. search needs)
     (λ c. search needs)
-    (λ c. cc))
+    (λ c. rw (c .wide .ensures, c .before .open-hours .ensures)))

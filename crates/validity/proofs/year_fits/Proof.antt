@@ -10,4 +10,4 @@ year-fits-spec =
     (λ c. search needs)
     (λ c κs. search needs)
     (λ c κs. search needs)
-    (λ c. cc))
+    (λ c. rw (c .month-number2 .ensures, c .before .month-number .ensures)))
