@@ -63,7 +63,7 @@ settled s marks buffer t =
     }
 
 -- T of a month that is calculated, in days
-month-hours : (d : Date) → isMonth d ≡ true → openHours d ≡ 24 * monthDays d
+pub month-hours : (d : Date) → isMonth d ≡ true → openHours d ≡ 24 * monthDays d
 unfolding openHours monthHours
 month-hours d m =
     let l = limits d m in
@@ -133,7 +133,7 @@ inputs-sane s marks buffer f t =
 
 -- THE RECORD AFTER IT
 -- the row of a calendar month below 12, and its number
-slot-row : (d : Date) → isMonth d ≡ true → slot d ≤ 11
+pub slot-row : (d : Date) → isMonth d ≡ true → slot d ≤ 11
 slot-row d m = let l = limits d m in omega arith
 
 -- a row's year that fits still fits in the month after

@@ -3,3 +3,4 @@ pub mod Examples
 pub mod GoesOn
 pub mod Keeps
 pub mod Laws
+pub mod Spare

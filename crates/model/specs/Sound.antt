@@ -1,9 +1,15 @@
 -- What holds of a point from its opening on, so that no call is ever refused with 1, 2 or 45.
 use Prim.Native.Nat.{ℕ, _+_, _-_, _*_, _≤_, _<_}
 use mathlib.Core.Path.{_≡_}
-use mathlib.Core.Bool.{true}
+use mathlib.Core.Bool.{true, cond, _&&_}
+use mathlib.Core.List.{List}
 use lib.ListN.{length}
-use Rattle.calendar.specs.Calendar.{monthNumber}
+use lib.Dec.{eqb}
+use Rattle.numbers.specs.Lists.{at}
+use Rattle.calendar.specs.declared.Date.{Date}
+use Rattle.calendar.specs.Calendar.{openHours, monthNumber}
+use Rattle.record.specs.declared.Reading.{Reading}
+use Rattle.record.specs.Record.{isSet}
 use Rattle.validity.specs.Valid.{valid}
 use Rattle.rows.specs.Store.{storeFits}
 use Rattle.rules.specs.Rules.{Outcome}
@@ -30,3 +36,20 @@ pub record Sound (s : State) : Type 0 where
   pub fits : Fits s
   pub run : s .point .service .run ≤ elapsed s
   pub total : s .point .total .0 ≤ 2232000000 * elapsed s
+
+-- row r is 0 from its hour `used` on
+abbrev pub ZeroFrom : List ℕ → ℕ → ℕ → Type 0
+ZeroFrom store r used = (h : ℕ) → used ≤ h → h < 744 → at store (744 * r + h) ≡ 0
+
+-- how many hours of a row are used: those of the month whose year it holds, and of a reading of an interval meter that is given
+abbrev pub monthUsed : List ℕ → ℕ → ℕ
+monthUsed years k = cond (eqb (at years k) 0) 0 (openHours (record { year = at years k; month = k + 1 }))
+
+abbrev pub readingUsed : Reading → ℕ → Date → ℕ
+readingUsed g kind d = cond (isSet (g .given) && eqb kind 1) (openHours d) 0
+
+-- UNUSED WORDS ARE 0
+pub record Unused (s : State) : Type 0 where
+  pub months : (k : ℕ) → k < 12 → ZeroFrom (s .store) k (monthUsed (s .point .past .years) k)
+  pub billing : ZeroFrom (s .store) 12 (readingUsed (s .point .readings .billing) (s .point .contract .billing) (s .point .date))
+  pub control : ZeroFrom (s .store) 13 (readingUsed (s .point .readings .control) (s .point .contract .control) (s .point .date))
