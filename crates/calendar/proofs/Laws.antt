@@ -4,7 +4,7 @@ use mathlib.Core.Bool.{Bool, true, false, cond, _&&_}
 use mathlib.Core.List.{List, [], _∷_}
 use mathlib.Core.Path.{_≡_, refl, sym, ap, _∙_}
 use native.Mathlib.Omega.{arith}
-use borrow.Author.Tests.{leb-true, leb-false, eqb-true, eqb-false, le-leb, eq-eqb}
+use borrow.Author.Tests.{leb-true, leb-false, eqb-true, eqb-false, le-leb, eq-eqb, ne-eqb}
 use lib.Dec.{leb, eqb, lit≤}
 use lib.ListN.{length, getD}
 use Rattle.numbers.proofs.Laws.{by-cases, both, first-of}
@@ -89,6 +89,13 @@ hours-low d h = omega (arith, hours-days d, days-low d h)
 pub hours-high : (d : Date) → monthHours d ≤ 744
 hours-high d = omega (arith, hours-days d, days-high d)
 
+-- T of a month that is calculated, in days
+pub month-hours : (d : Date) → isMonth d ≡ true → openHours d ≡ 24 * monthDays d
+unfolding openHours monthHours
+month-hours d m =
+    let l = limits d m in
+    rw (ne-eqb (d .year) 3000 (λ e. omega arith))
+
 -- T of an open month is at least 672
 pub open-low : (d : Date) → isOpen d ≡ true → 672 ≤ openHours d
 unfolding openHours
@@ -99,6 +106,11 @@ open-low d h =
 pub open-high : (d : Date) → isOpen d ≡ true → openHours d ≤ 744
 unfolding openHours
 open-high d h = by-cases (isEnd d) (λ t. rw t (lit≤ tt)) (λ f. rw f (hours-high d))
+
+-- the number of a month that is calculated
+pub number-limits : (d : Date) → isMonth d ≡ true → (24169 ≤ monthNumber d) × (monthNumber d ≤ 36000)
+unfolding monthNumber
+number-limits d m = let l = limits d m in (omega arith, omega arith)
 
 -- the month after has the next number
 pub number-next : (d : Date) → isMonth d ≡ true → monthNumber (nextMonth d) ≡ monthNumber d + 1

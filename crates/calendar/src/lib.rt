@@ -1,7 +1,7 @@
 use numbers::pick;
 use numbers::wide;
 ghost use mathlib.Core.Path.{_≡_};
-ghost use Rattle.calendar.specs.Calendar.{leapYear, isMonth, monthDays, monthHours, isEnd, isOpen, openHours, monthNumber, dateIn, nextIn};
+ghost use Rattle.calendar.specs.Calendar.{leapYear, isMonth, monthDays, monthHours, isEnd, isOpen, openHours, monthNumber, isMonthNumber, dateIn, nextIn};
 
 // A month of a year. Months count from 1, January, to 12, December.
 #[repr(C)]
@@ -72,6 +72,13 @@ pub fn month_number(d: Date) -> u64
     ensures { λ r. ⌜ r ≡ monthNumber d ⌝ }
 {
     wide(d.year) * 12 + wide(d.month)
+}
+
+// Whether `n` is the number of a month that is calculated, 2014 to 2999.
+pub fn is_month_number(n: u64) -> bool
+    ensures { λ r. ⌜ r ≡ isMonthNumber n ⌝ }
+{
+    (24169 <= n) & (n <= 36000)
 }
 
 // The month whose number is `n`, from January 2014 to January 3000; else year 0 and month 0, so that any number may be asked for.

@@ -1,6 +1,6 @@
 -- The contract of a point (document 01, 'Power and the cable formula' and 'What a point keeps').
 use Prim.Native.Nat.{ℕ}
-use mathlib.Core.Bool.{Bool, cond, _||_}
+use mathlib.Core.Bool.{Bool, cond, _&&_, _||_}
 use mathlib.Core.List.{List}
 use lib.Dec.{eqb, leb}
 use Rattle.units.specs.declared.Kw.{Kw}
@@ -15,6 +15,10 @@ isBillingKind k = eqb k 1 || eqb k 2
 -- control meter 0 none, 1 interval, 2 integral
 abbrev pub isControlKind : ℕ → Bool
 isControlKind k = leb k 2
+
+-- both meters are of a kind that there is
+abbrev pub metersFit : Contract → Bool
+metersFit c = isBillingKind (c .billing) && isControlKind (c .control)
 
 -- bases 1 and 2, an agreed power
 abbrev pub isAgreed : ℕ → Bool

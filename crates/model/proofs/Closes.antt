@@ -1,4 +1,4 @@
--- A point goes on: an accepted closing works by inputs of which the rules are right, and leaves a record that passes number 2 and a store that passes 1 and 45. Assumes nothing.
+-- A point goes on: an accepted closing works by inputs of which the rules are right, and leaves, where its run and total have room, a record that passes number 2 and a store that passes 1 and 45. Assumes nothing.
 use Prim.Native.Nat.{ℕ, _+_, _-_, _*_, _/_, _%_, _≤_, _<_}
 use mathlib.Core.Path.{_≡_, _∙_}
 use mathlib.Core.Bool.{Bool, true, false, not, _&&_, _||_}
@@ -11,8 +11,8 @@ use lib.Seq.{getD-set-same, getD-set-other, length-take-le}
 use Rattle.numbers.specs.Lists.{at, noneAbove}
 use Rattle.numbers.proofs.Laws.{by-cases, both, cond-most, all-at, all-from}
 use Rattle.calendar.specs.declared.Date.{Date}
-use Rattle.calendar.specs.Calendar.{isMonth, monthDays, monthHours, openHours, monthNumber, isMonthNumber, yearOf, placeOf, dateOf, nextMonth}
-use Rattle.calendar.proofs.Laws.{limits, days-low, days-high, open-next, number-next}
+use Rattle.calendar.specs.Calendar.{isMonth, monthDays, openHours, monthNumber, isMonthNumber, yearOf, placeOf, dateOf, nextMonth}
+use Rattle.calendar.proofs.Laws.{limits, days-low, days-high, month-hours, open-next, number-limits, number-next}
 use Rattle.sharing.specs.Shares.{rowPart}
 use Rattle.marks.specs.Marks.{high, crowded, unmatched}
 use Rattle.power.specs.Power.{cableFits}
@@ -28,7 +28,7 @@ use Rattle.rows.proofs.Laws.{length-row, length-put, put-fits-month, put-fits-p
 use Rattle.rules.specs.Calls.{closing}
 use Rattle.rules.specs.Rules.{whole, some, rules, becomesPast}
 use Rattle.rules.specs.Right.{HoursFit, MeasuredFits, PastHoursFit, Sane}
-use Rattle.rules.proofs.Sums.{rules-right}
+use Rattle.rules.proofs.Laws.{rules-right}
 use Rattle.model.specs.Refusals.{ownRefusal}
 use Rattle.model.specs.Model.{State, measuredIn, slot, lastYear, pastIn, inputs, pastAfter, runAfter, rowsAfter, closedWith, accept, accepted}
 use Rattle.model.specs.Sound.{Fits, Room}
@@ -61,13 +61,6 @@ settled s marks buffer t =
       room = eqb-true _ _ (not-false _ (f .0));
       fits = not-false _ (g .0);
     }
-
--- T of a month that is calculated, in days
-pub month-hours : (d : Date) → isMonth d ≡ true → openHours d ≡ 24 * monthDays d
-unfolding openHours monthHours
-month-hours d m =
-    let l = limits d m in
-    rw (ne-eqb (d .year) 3000 (λ e. omega arith))
 
 -- a reading that the record holds
 measured : (kind t : ℕ) (g : Reading) (hs : List ℕ) → HoursFit t hs → g .volume .0 ≤ t * 1000000 → MeasuredFits t (measuredIn kind g hs)
@@ -132,7 +125,7 @@ inputs-sane s marks buffer f t =
     }
 
 -- THE RECORD AFTER IT
--- the row of a calendar month below 12, and its number
+-- the row of a calendar month is one of the first 12
 pub slot-row : (d : Date) → isMonth d ≡ true → slot d ≤ 11
 slot-row d m = let l = limits d m in omega arith
 
@@ -154,11 +147,6 @@ year-closed years d k m e y =
     let n = number-next d m in
     rw (y, ne-eqb (d .year) 0 (λ z. omega arith), le-leb 2014 (d .year) (l .from), le-leb (d .year) 2999 (l .to))
     (lt-ltb (d .year * 12 + (k + 1)) (nextMonth d .year * 12 + nextMonth d .month) (omega arith))
-
--- the number of a month that is calculated
-pub number-limits : (d : Date) → isMonth d ≡ true → (24169 ≤ monthNumber d) × (monthNumber d ≤ 36000)
-unfolding monthNumber
-number-limits d m = let l = limits d m in (omega arith, omega arith)
 
 -- the closed month is the latest past in the month after, and stands in its row
 latest-closed : (d : Date) → isMonth d ≡ true → eqb (monthNumber d) 0 || (isMonthNumber (monthNumber d) && ltb (monthNumber d) (monthNumber (nextMonth d))) ≡ true

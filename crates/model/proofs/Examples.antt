@@ -4,7 +4,7 @@ use mathlib.Core.Path.{_≡_, refl}
 use mathlib.Core.Bool.{true, false}
 use mathlib.Core.List.{List, [], _∷_, _++_}
 use lib.ListN.{set, replicate}
-use Rattle.numbers.specs.Lists.{zeros, noneAbove}
+use Rattle.numbers.specs.Lists.{at, zeros, padded, noneAbove}
 use Rattle.calendar.specs.declared.Date.{Date}
 use Rattle.calendar.specs.Calendar.{leapYear, isMonth, monthDays, monthHours, openHours, monthNumber, dateOf}
 use Rattle.sharing.specs.Shares.{portion, taken, spread, sharesOver}
@@ -17,7 +17,7 @@ use Rattle.record.specs.declared.Record.{Record}
 use Rattle.record.specs.declared.Service.{Service}
 use Rattle.record.specs.Record.{givenAs, zeroRecord, freshRecord, freshService, withDate, withService, withReadings, withPast, withServing, withDenials, withBilling, withControl, withFirst, withSecond}
 use Rattle.validity.specs.Valid.{volumeLimit, valid}
-use Rattle.rows.specs.Store.{storeFits}
+use Rattle.rows.specs.Store.{putRow, storeFits}
 use Rattle.rules.specs.Calls.{Opening, Call, billingHours, controlHours, billingVolume, controlVolume, neighbour, failure, admission, denial, permission, closing}
 use Rattle.rules.specs.Rules.{none, some}
 use Rattle.model.specs.Refusals.{refuse, anyone, ownRefusal, openRefusal}
@@ -149,6 +149,13 @@ settlement :
 unfolding judging
 settlement = (refl, refl, refl, refl, refl, refl, refl, refl)
 
+-- 45, of a store of one word and of none
+store-limit :
+    (ownRefusal (point 1 2) (3000001 ∷ []) (closing plain (zeros 744)) ≡ 45) × (ownRefusal (point 1 2) (3000000 ∷ []) (closing plain (zeros 744)) ≡ 0)
+    × (ownRefusal (point 1 2) [] (closing plain (zeros 744)) ≡ 0)
+unfolding judging
+store-limit = (refl, refl, refl)
+
 -- FAULTS: at most 12 months back, and the same month
 repeats :
     (isRepeat 24277 24289 ≡ true) × (isRepeat 24277 24290 ≡ false) × (isRepeat 24277 24277 ≡ true) × (isRepeat 0 24277 ≡ false)
@@ -177,6 +184,36 @@ denials :
     × (accept (state (served (point 2 2) (record { run = 5; serving = 0; denials = 2; fault = 0 })) []) permission .point .service ≡ record { run = 5; serving = 0; denials = 0; fault = 0 })
 unfolding judging
 denials = (refl, refl, refl)
+
+-- READINGS: hours go into their own row, 12 or 13, with 0 past their end and no volume; volumes touch no row
+abbrev empty : List ℕ
+empty = zeros 10416
+
+abbrev after : Record → Call → ℕ → ℕ
+after r c k = at (accept (state r empty) c .store) k
+
+rows :
+    (after (point 1 1) (billingHours (7 ∷ [])) 8928 ≡ 7) × (after (point 1 1) (billingHours (7 ∷ [])) 8929 ≡ 0) × (after (point 1 1) (billingHours (7 ∷ [])) 9672 ≡ 0)
+    × (after (point 1 1) (controlHours (7 ∷ [])) 9672 ≡ 7) × (after (point 1 1) (controlHours (7 ∷ [])) 8928 ≡ 0)
+    × (accept (state (point 1 1) []) (billingHours (7 ∷ [])) .point ≡ withReadings (point 1 1) (withBilling (point 1 1 .readings) (givenAs 0)))
+    × (accept (state (point 1 1) []) (controlHours (7 ∷ [])) .point ≡ withReadings (point 1 1) (withControl (point 1 1 .readings) (givenAs 0)))
+unfolding judging padded putRow
+rows = (refl, refl, refl, refl, refl, refl, refl)
+
+volumes :
+    (accept (state (point 2 2) []) (billingVolume 9) ≡ state read [])
+    × (accept (state (point 2 2) []) (controlVolume 9) ≡ state (withReadings (point 2 2) (withControl (point 2 2 .readings) (givenAs 9))) [])
+    × (accept (state (point 2 2) []) (neighbour 1 9) ≡ state (withReadings (point 2 2) (withFirst (point 2 2 .readings) (givenAs 9))) [])
+    × (accept (state (point 2 2) []) (neighbour 2 9) ≡ state (withReadings (point 2 2) (withSecond (point 2 2 .readings) (givenAs 9))) [])
+unfolding judging
+volumes = (refl, refl, refl, refl)
+
+-- a failure discards the reading, its volume and row 12; an admission puts back in service and leaves all else
+discards :
+    (accept (state read []) (failure 3) .point ≡ out (point 2 2)) × (at (accept (state read (set empty 8928 7)) (failure 3) .store) 8928 ≡ 0)
+    × (at (accept (state read (set empty 9672 7)) (failure 3) .store) 9672 ≡ 7) × (accept (state (out read) []) admission ≡ state read [])
+unfolding judging padded putRow
+discards = (refl, refl, refl, refl)
 
 -- THE PAST: no row of January 2014 holds 2013; a row of two years ago is no past but as the latest; last year's row goes before the latest, with last year's hours
 abbrev filled : Date → List ℕ → ℕ → State

@@ -1,16 +1,17 @@
 -- A POINT GOES ON: an accepted opening leaves a sound state, and every accepted call keeps it sound, closings included. Assumes nothing.
 use Prim.Native.Nat.{ℕ, _-_, _≤_, zero-le}
-use mathlib.Core.Path.{_≡_, refl, sym}
-use mathlib.Core.Bool.{true, false, not, _&&_, _||_, false≢true}
+use mathlib.Core.Path.{_≡_, refl, sym, ap, _∙_}
+use mathlib.Core.Logic.{_⊎_, inl, inr, ⊎-elim, _≢_}
+use mathlib.Core.Bool.{Bool, true, false, not, _&&_, _||_, false≢true}
 use mathlib.Core.List.{List}
 use native.Mathlib.Omega.{arith}
-use borrow.Author.Tests.{eqb-true, le-leb}
+use borrow.Author.Tests.{eqb-true, eq-eqb, le-leb}
 use lib.Dec.{eqb, lit≤}
 use lib.ListN.{length, length-replicate}
 use Rattle.numbers.specs.Lists.{at}
 use Rattle.numbers.proofs.Laws.{by-cases, both, cond-most}
 use Rattle.calendar.specs.Calendar.{monthNumber}
-use Rattle.calendar.proofs.Laws.{number-next}
+use Rattle.calendar.proofs.Laws.{number-limits, number-next}
 use Rattle.power.specs.declared.Cable.{Cable}
 use Rattle.power.specs.Power.{cableFits, basisFits}
 use Rattle.power.proofs.Laws.{power-most}
@@ -18,17 +19,20 @@ use Rattle.contract.specs.Contract.{isAgreed, kept}
 use Rattle.record.specs.Record.{noPast, freshService}
 use Rattle.validity.specs.Valid.{allOf, contractTests, volumeLimit}
 use Rattle.validity.proofs.Laws.{all, valid-from, service-from, past-from, none-fit}
+use Rattle.record.specs.declared.Record.{Record}
+use Rattle.rows.specs.Store.{storeFits}
 use Rattle.rows.proofs.Laws.{fits-empty}
 use Rattle.rules.specs.Calls.{Opening, Call, billingHours, controlHours, billingVolume, controlVolume, neighbour, failure, admission, denial, permission, closing, isClosing, isFault}
 use Rattle.rules.specs.Rules.{rules, becomesPast}
-use Rattle.rules.proofs.Sums.{rules-right}
-use Rattle.model.specs.Refusals.{openRefusal}
-use Rattle.model.specs.Model.{State, isRepeat, inputs, closedWith, accept, accepted}
-use Rattle.model.specs.Opening.{opens, opened}
-use Rattle.model.specs.Sound.{Room, Sound}
+use Rattle.rules.proofs.Laws.{rules-right}
+use Rattle.model.specs.Refusals.{refuse, readers, closingNumber, ownRefusal, openRefusal}
+use Rattle.model.specs.declared.Answer.{Answer}
+use Rattle.model.specs.Model.{State, isRepeat, inputs, closedWith, accept, accepted, state, refusal, leaves, answer, Does}
+use Rattle.model.specs.Opening.{opens, opened, openLeaves, openAnswer, Opens}
+use Rattle.model.specs.Sound.{Room, Sound, Fits}
 use Rattle.model.proofs.Laws.{Allowed, allowed}
 use Rattle.model.proofs.Keeps.{own, open-month, keeps}
-use Rattle.model.proofs.Closes.{number-limits, inputs-sane, closes}
+use Rattle.model.proofs.Closes.{inputs-sane, closes}
 
 -- one of the three bases
 basis-known : (k p : ℕ) (currents : List ℕ) (place : ℕ) (cable : Cable) → basisFits k p currents place cable ≡ true → isAgreed k || eqb k 3 ≡ true
@@ -153,3 +157,79 @@ call-sound s admission f t = between-closings s admission refl f t
 call-sound s denial f t = between-closings s denial refl f t
 call-sound s permission f t = between-closings s permission refl f t
 call-sound s (closing marks buffer) f t = at-closing s marks buffer f t
+
+opens-at : (o : Opening) (store : List ℕ) → openRefusal (length store) o ≡ 0 → opens o store ≡ true
+unfolding opens
+opens-at o store e = eq-eqb _ 0 e
+
+-- THE CONTRACTS: an opening that does what its contract says and is accepted, and any call after it, accepted or refused
+pub opens-sound : (o : Opening) (before after : List ℕ) (a : Answer) → Opens o before a after → a .refusal ≡ 0 → Sound (state (a .after) after)
+unfolding openAnswer openLeaves
+opens-sound o before after a does e =
+    let z : openRefusal (length before) o ≡ 0 = sym (ap (λ (x : Answer). x .refusal) (does .answered)) ∙ e in
+    let t : opens o before ≡ true = opens-at o before z in
+    rw (does .answered, does .left, t) (opening-sound o before t)
+
+pub does-sound : (s : State) (c : Call) (a : Answer) (store buffer : List ℕ) → Does s c a store buffer → Sound s → Sound (state (a .after) store)
+unfolding answer leaves
+does-sound s c a store buffer does sound =
+    rw (does .answered, does .left)
+    (by-cases (accepted s c) (λ t. rw t (call-sound s c sound t)) (λ f. rw f sound))
+
+-- the numbers that a call can give on a state that fits
+abbrev Among : ℕ → Type 0
+Among n = (n ≡ 0) ⊎ ((3 ≤ n) × (n ≤ 44))
+
+among : (test : Bool) (number rest : ℕ) → 3 ≤ number → number ≤ 44 → Among rest → Among (refuse test number rest)
+unfolding refuse
+among true number rest l m r = inr (l, m)
+among false number rest l m r = r
+
+readings-among : (t20 t21 t22 t23 t24 : Bool) → Among (readers t20 t21 t22 t23 t24)
+readings-among t20 t21 t22 t23 t24 =
+    among t20 20 _ (lit≤ tt) (lit≤ tt)
+    (among t21 21 _ (lit≤ tt) (lit≤ tt)
+    (among t22 22 _ (lit≤ tt) (lit≤ tt) (among t23 23 _ (lit≤ tt) (lit≤ tt) (among t24 24 0 (lit≤ tt) (lit≤ tt) (inl refl)))))
+
+one-among : (test : Bool) (number : ℕ) → 3 ≤ number → number ≤ 44 → Among (refuse test number 0)
+one-among test number l m = among test number 0 l m (inl refl)
+
+store-among : (store : List ℕ) → storeFits store ≡ true → Among (refuse (not (storeFits store)) 45 0)
+unfolding refuse
+store-among store f = rw f (inl refl)
+
+closing-among : (r : Record) (store marks buffer : List ℕ) → storeFits store ≡ true → Among (closingNumber r store marks buffer)
+closing-among r store marks buffer f =
+    among _ 40 _ (lit≤ tt) (lit≤ tt)
+    (among _ 41 _ (lit≤ tt) (lit≤ tt)
+    (among _ 42 _ (lit≤ tt) (lit≤ tt)
+    (among _ 43 _ (lit≤ tt) (lit≤ tt)
+    (among _ 44 _ (lit≤ tt) (lit≤ tt) (store-among store f)))))
+
+own-among : (r : Record) (store : List ℕ) (c : Call) → storeFits store ≡ true → Among (ownRefusal r store c)
+unfolding ownRefusal
+own-among r store (billingHours hs) f = readings-among _ _ _ _ _
+own-among r store (controlHours hs) f = readings-among _ _ _ _ _
+own-among r store (billingVolume v) f = readings-among _ _ _ _ _
+own-among r store (controlVolume v) f = readings-among _ _ _ _ _
+own-among r store (neighbour source v) f = readings-among _ _ _ _ _
+own-among r store (failure reason) f = among _ 30 _ (lit≤ tt) (lit≤ tt) (one-among _ 31 (lit≤ tt) (lit≤ tt))
+own-among r store admission f = one-among _ 32 (lit≤ tt) (lit≤ tt)
+own-among r store denial f = one-among _ 33 (lit≤ tt) (lit≤ tt)
+own-among r store permission f = one-among _ 34 (lit≤ tt) (lit≤ tt)
+own-among r store (closing marks buffer) f = closing-among r store marks buffer f
+
+refusal-among : (s : State) (c : Call) → Fits s → Among (refusal s c)
+unfolding refusal refuse
+refusal-among s c f =
+    rw (eq-eqb (length (s .store)) 10416 (f .words), f .record-fits)
+    (among (eqb (s .point .date .year) 3000) 3 _ (lit≤ tt) (lit≤ tt) (own-among (s .point) (s .store) c (f .store-fits)))
+
+-- NO CALL IS REFUSED WITH 1, 2 OR 45
+pub never-refused : (s : State) (c : Call) → Sound s → (refusal s c ≢ 1) × (refusal s c ≢ 2) × (refusal s c ≢ 45)
+never-refused s c sound =
+    let a = refusal-among s c (sound .fits) in (
+      λ e. ⊎-elim (λ z. omega (arith, z, e)) (λ r. omega (arith, r .0, e)) a,
+      λ e. ⊎-elim (λ z. omega (arith, z, e)) (λ r. omega (arith, r .0, e)) a,
+      λ e. ⊎-elim (λ z. omega (arith, z, e)) (λ r. omega (arith, r .1, e)) a,
+    )

@@ -1,17 +1,17 @@
--- A point goes on: each accepted call that does not close the month leaves a record that passes number 2 and a store that passes 1 and 45. Assumes nothing.
-use Prim.Native.Nat.{ℕ, _+_, _*_, _≤_, _<_}
+-- A point goes on: each accepted call that does not close the month leaves a record that passes number 2 and a store that passes 1 and 45, given ones that did. Assumes nothing.
+use Prim.Native.Nat.{ℕ, _+_, _≤_, _<_}
 use mathlib.Core.Path.{_≡_, refl}
 use mathlib.Core.Bool.{Bool, true, false, not, cond, _&&_, _||_, true≢false}
 use mathlib.Core.List.{List, []}
 use native.Mathlib.Omega.{arith}
-use borrow.Author.Tests.{eqb-true, eqb-false, le-leb, ltb-false, not-false}
-use lib.Dec.{eqb, lit≤}
+use borrow.Author.Tests.{eqb-true, eqb-false, ne-eqb, le-leb, ltb-false, not-false}
+use lib.Dec.{eqb, lit≤, lit<}
 use lib.ListN.{length}
 use Rattle.numbers.specs.Lists.{noneAbove}
 use Rattle.numbers.proofs.Laws.{by-cases, first-of, cond-most}
 use Rattle.calendar.specs.declared.Date.{Date}
 use Rattle.calendar.specs.Calendar.{isMonth, isEnd, monthNumber, isMonthNumber}
-use Rattle.calendar.proofs.Laws.{limits}
+use Rattle.calendar.proofs.Laws.{number-limits}
 use Rattle.record.specs.declared.Service.{Service}
 use Rattle.record.specs.declared.Readings.{Readings}
 use Rattle.record.specs.declared.Record.{Record}
@@ -25,7 +25,6 @@ use Rattle.model.specs.Refusals.{ownRefusal}
 use Rattle.model.specs.Model.{State, state, discarded, isRepeat, afterFailure, oneDenial, accept, refusal, accepted}
 use Rattle.model.specs.Sound.{Fits}
 use Rattle.model.proofs.Laws.{skip, Passed, passed, read, month-most}
-use lib.Dec.{lit<}
 
 -- what the acceptance of a call tells
 pub own : (s : State) (c : Call) → accepted s c ≡ true → Passed (length (s .store)) (s .point) (ownRefusal (s .point) (s .store) c)
@@ -195,11 +194,9 @@ keep-neighbour s source v f t =
 
 -- the month of a fault
 month-number : (d : Date) → isMonth d ≡ true → eqb (monthNumber d) 0 || isMonthNumber (monthNumber d) ≡ true
-unfolding monthNumber
 month-number d m =
-    let l = limits d m in
-    by-cases (eqb (d .year * 12 + d .month) 0) (λ t. rw t)
-    (λ f. rw (f, le-leb 24169 (d .year * 12 + d .month) (omega arith), le-leb (d .year * 12 + d .month) 36000 (omega arith)))
+    let l = number-limits d m in
+    rw (ne-eqb (monthNumber d) 0 (λ z. omega (arith, l .0)), le-leb 24169 (monthNumber d) (l .0), le-leb (monthNumber d) 36000 (l .1))
 
 -- what holds of both sides of a choice holds of it
 choice : {A : Type 0} (P : A → Type 0) (b : Bool) {x y : A} → P x → P y → P (cond b x y)

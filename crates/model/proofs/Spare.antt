@@ -13,19 +13,19 @@ use lib.Seq.{getD-set-same, getD-set-other}
 use Rattle.numbers.specs.Lists.{at}
 use Rattle.numbers.proofs.Laws.{by-cases, at-zeros}
 use Rattle.calendar.specs.Calendar.{isMonth, openHours}
-use Rattle.calendar.proofs.Laws.{limits, days-high}
+use Rattle.calendar.proofs.Laws.{limits, days-high, month-hours}
 use Rattle.rows.specs.Store.{asRow, withHours, withoutHours}
 use Rattle.rows.proofs.Laws.{at-row, length-row, length-put, at-put-before, at-put-in, at-put-after}
 use Rattle.rules.specs.Calls.{Opening, Call, billingHours, controlHours, billingVolume, controlVolume, neighbour, failure, admission, denial, permission, closing}
 use Rattle.rules.specs.Rules.{rules, becomesPast}
-use Rattle.rules.proofs.Sums.{rules-right}
+use Rattle.rules.proofs.Laws.{rules-right}
 use Rattle.model.specs.Refusals.{ownRefusal}
 use Rattle.model.specs.Model.{State, state, discarded, oneDenial, slot, inputs, pastAfter, rowsAfter, closedWith, accept, accepted}
 use Rattle.model.specs.Opening.{opened}
 use Rattle.model.specs.Sound.{Fits, ZeroFrom, monthUsed, Unused}
 use Rattle.model.proofs.Laws.{read, month-most}
 use Rattle.model.proofs.Keeps.{own, open-month}
-use Rattle.model.proofs.Closes.{slot-row, month-hours, inputs-sane}
+use Rattle.model.proofs.Closes.{slot-row, inputs-sane}
 
 -- AN ACCEPTED OPENING
 pub opening-spare : (o : Opening) → Unused (opened o)

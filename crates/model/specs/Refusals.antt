@@ -8,7 +8,7 @@ use Rattle.numbers.specs.Lists.{noneAbove}
 use Rattle.calendar.specs.Calendar.{isMonth, openHours}
 use Rattle.power.specs.Power.{cableFits, agreedFits, listFits}
 use Rattle.marks.specs.Marks.{high, crowded, unmatched}
-use Rattle.contract.specs.Contract.{isBillingKind, isControlKind, isAgreed}
+use Rattle.contract.specs.Contract.{metersFit, isAgreed}
 use Rattle.record.specs.declared.Record.{Record}
 use Rattle.record.specs.declared.Service.{Service}
 use Rattle.record.specs.Record.{isSet}
@@ -37,7 +37,7 @@ openRefusal words o =
     -- 10 year or month
     (refuse (not (isMonth (o .date))) 10
     -- 11 meter kind
-    (refuse (not (isBillingKind (o .asked .billing) && isControlKind (o .asked .control))) 11
+    (refuse (not (metersFit (o .asked))) 11
     -- 12 basis not 1 to 3, or power 0 or above 1,000,000 on basis 1 or 2
     (refuse (not (eqb (o .asked .basis) 3 || (isAgreed (o .asked .basis) && agreedFits (o .asked .power .0)))) 12
     -- 13 cable value on basis 3

@@ -1,4 +1,4 @@
--- What holds of a point from its opening on, so that no call is ever refused with 1, 2 or 45.
+-- What holds of a point from its opening on. So no call is ever refused with 1, 2 or 45: the law `never-refused`.
 use Prim.Native.Nat.{ℕ, _+_, _-_, _*_, _≤_, _<_}
 use mathlib.Core.Path.{_≡_}
 use mathlib.Core.Bool.{true, cond, _&&_}

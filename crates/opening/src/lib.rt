@@ -5,7 +5,9 @@ ghost use Rattle.model.specs.Opening.{Opens};
 use calendar::Date;
 use calendar::is_month;
 use contract::Contract;
+use contract::is_agreed;
 use contract::keep;
+use contract::meters_fit;
 use model::Answer;
 use model::answer_with;
 use model::refuse_if;
@@ -22,12 +24,11 @@ fn open_refusal(words: usize, asked: Contract, date: Date, currents: &[u32], pla
     ensures { λ n. ⌜ n ≡ openRefusal words (record { asked = asked; date = date; currents = now (currents .entry); place = place }) ⌝ }
 {
     let cabled = asked.basis == 3;
-    let agreed = ((asked.basis == 1) | (asked.basis == 2)) & agreed_fits(asked.power);
-    let meters = ((asked.billing == 1) | (asked.billing == 2)) & (asked.control <= 2);
+    let agreed = is_agreed(asked.basis) & agreed_fits(asked.power);
     let n = refuse_if((asked.basis == 2) & !list_fits(currents, place), 14, 0);
     let n = refuse_if(cabled & !cable_fits(asked.cable), 13, n);
     let n = refuse_if(!(cabled | agreed), 12, n);
-    let n = refuse_if(!meters, 11, n);
+    let n = refuse_if(!meters_fit(asked), 11, n);
     let n = refuse_if(!is_month(date), 10, n);
     refuse_if(words != 10416, 1, n)
 }

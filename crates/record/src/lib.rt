@@ -4,7 +4,7 @@ ghost use Rattle.record.specs.Record.{noPast, zeroRecord, freshRecord};
 use calendar::Date;
 use changes::no_readings;
 use contract::Contract;
-use power::Cable;
+use contract::no_cable;
 use units::Kw;
 use units::Kwh;
 
@@ -90,12 +90,7 @@ pub fn fresh_record(c: Contract, d: Date) -> Record
 pub fn zero_record() -> Record
     ensures { λ r. ⌜ r ≡ zeroRecord ⌝ }
 {
-    let cable = Cable {
-        amperes: 0,
-        volts: 0,
-        cosine: 0,
-        phases: 0,
-    };
+    let cable = no_cable();
     let contract = Contract {
         billing: 0,
         control: 0,

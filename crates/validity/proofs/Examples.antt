@@ -159,9 +159,11 @@ no-volume :
     Fails (read (meters 2 2) (reading 0 1) notGiven notGiven notGiven) × Passes (read (meters 2 2) (reading 1 1) notGiven notGiven notGiven)
     × Fails (read (meters 1 2) (reading 1 1) notGiven notGiven notGiven) × Passes (read (meters 1 2) (reading 1 0) notGiven notGiven notGiven)
     × Fails (read (meters 1 1) notGiven (reading 1 1) notGiven notGiven) × Passes (read (meters 1 1) notGiven (reading 1 0) notGiven notGiven)
-    × Fails (read (meters 1 1) notGiven notGiven (reading 0 1) notGiven) × Fails (read (meters 1 1) notGiven notGiven notGiven (reading 0 1))
+    × Fails (read (meters 1 2) notGiven (reading 0 1) notGiven notGiven) × Passes (read (meters 1 2) notGiven (reading 1 1) notGiven notGiven)
+    × Fails (read (meters 1 1) notGiven notGiven (reading 0 1) notGiven) × Passes (read (meters 1 1) notGiven notGiven (reading 1 1) notGiven)
+    × Fails (read (meters 1 1) notGiven notGiven notGiven (reading 0 1)) × Passes (read (meters 1 1) notGiven notGiven notGiven (reading 1 1))
 unfolding Passes Fails judging
-no-volume = (refl, refl, refl, refl, refl, refl, refl, refl)
+no-volume = (refl, refl, refl, refl, refl, refl, refl, refl, refl, refl, refl, refl)
 
 -- a control reading without a control meter
 form-lacking : Fails (read (meters 1 0) notGiven (reading 1 0) notGiven notGiven) × Passes (read (meters 1 0) notGiven notGiven notGiven notGiven)

@@ -9,14 +9,14 @@ use lib.Dec.{leb, ltb, eqb}
 use Rattle.numbers.specs.Lists.{allTo, at}
 use Rattle.numbers.proofs.Laws.{by-cases, both}
 use Rattle.calendar.specs.declared.Date.{Date}
-use Rattle.calendar.specs.Calendar.{isOpen, monthNumber, isMonthNumber, yearOf, placeOf}
+use Rattle.calendar.specs.Calendar.{isOpen, monthNumber, isMonthNumber}
 use Rattle.contract.specs.declared.Contract.{Contract}
 use Rattle.record.specs.declared.Service.{Service}
 use Rattle.record.specs.declared.Past.{Past}
 use Rattle.record.specs.declared.Readings.{Readings}
 use Rattle.record.specs.declared.Record.{Record}
 use Rattle.record.specs.Record.{isSet, notGiven, givenAs, noReadings}
-use Rattle.validity.specs.Valid.{allFrom, allOf, contractTests, serviceTests, yearFits, pastTests, readingTests, readingsTests, volumeLimit, recordTests, valid}
+use Rattle.validity.specs.Valid.{allFrom, allOf, contractTests, serviceTests, yearFits, latestInRow, pastTests, readingTests, readingsTests, volumeLimit, recordTests, valid}
 
 -- every test of a list, one by one
 abbrev pub Each : List Bool → Type 0
@@ -110,7 +110,7 @@ fault-most r h =
 pub record PastFits (p : Past) (d : Date) : Type 0 where
   pub years : allTo (yearFits (p .years) d) 12 ≡ true
   pub latest : eqb (p .latest) 0 || (isMonthNumber (p .latest) && ltb (p .latest) (monthNumber d)) ≡ true
-  pub row : eqb (p .latest) 0 || eqb (at (p .years) (placeOf (p .latest))) (yearOf (p .latest)) ≡ true
+  pub row : latestInRow p ≡ true
 
 pub past-parts : (p : Past) (d : Date) → allOf (pastTests p d) ≡ true → PastFits p d
 past-parts p d h =

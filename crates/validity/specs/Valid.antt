@@ -29,6 +29,10 @@ allOf ts = allFrom true ts
 abbrev pub isNoCable : Cable → Bool
 isNoCable k = eqb (k .amperes) 0 && eqb (k .volts) 0 && eqb (k .cosine) 0 && eqb (k .phases) 0
 
+-- what the basis does not use is 0
+abbrev pub restIsZero : Contract → Bool
+restIsZero c = cond (eqb (c .basis) 3) (eqb (c .power .0) 0) (isNoCable (c .cable))
+
 abbrev pub contractTests : Contract → List Bool
 contractTests c =
     -- "billing meter 1 interval or 2 integral"
@@ -42,7 +46,7 @@ contractTests c =
     -- "or the cable values as given", within the limits of basis 3
     ∷ (not (eqb (c .basis) 3) || cableFits (c .cable))
     -- "fields that the basis doesn't use are 0"
-    ∷ cond (eqb (c .basis) 3) (eqb (c .power .0) 0) (isNoCable (c .cable))
+    ∷ restIsZero c
     ∷ []
 
 abbrev pub serviceTests : Service → Date → List Bool
@@ -59,11 +63,17 @@ serviceTests s d =
     ∷ leb (s .fault) (monthNumber d)
     ∷ []
 
--- the row of calendar month k + 1 holds no year, or one of 2014 to 2999, and that month of that year is before the open month
+-- the row of calendar month k + 1 holds no year, or a year y of 2014 to 2999 whose month k + 1 is before the open month
+abbrev pub yearBefore : ℕ → ℕ → Date → Bool
+yearBefore y k d =
+    eqb y 0 || (leb 2014 y && leb y 2999 && ltb (monthNumber (record { year = y; month = k + 1 })) (monthNumber d))
+
 abbrev pub yearFits : List ℕ → Date → ℕ → Bool
-yearFits years d k =
-    eqb (at years k) 0
-    || (leb 2014 (at years k) && leb (at years k) 2999 && ltb (monthNumber (record { year = at years k; month = k + 1 })) (monthNumber d))
+yearFits years d k = yearBefore (at years k) k d
+
+-- the row of the latest past month holds its year, or there is no such month
+abbrev pub latestInRow : Past → Bool
+latestInRow p = eqb (p .latest) 0 || eqb (at (p .years) (placeOf (p .latest))) (yearOf (p .latest))
 
 abbrev pub pastTests : Past → Date → List Bool
 pastTests p d =
@@ -72,7 +82,7 @@ pastTests p d =
     -- "the latest past month, 0 for none", and "the latest past not before" the open month
     ∷ (eqb (p .latest) 0 || (isMonthNumber (p .latest) && ltb (p .latest) (monthNumber d)))
     -- "the latest past month not in its row"
-    ∷ (eqb (p .latest) 0 || eqb (at (p .years) (placeOf (p .latest))) (yearOf (p .latest)))
+    ∷ latestInRow p
     ∷ []
 
 -- T × 1,000,000

@@ -1,16 +1,16 @@
 // Number 2: whether a record is one that a point can have. Each function tests one part, in the order of its definition.
 ghost use mathlib.Core.Path.{_≡_};
-ghost use mathlib.Core.Bool.{cond, _&&_, _||_};
-ghost use lib.Dec.{eqb, leb, ltb};
 ghost use Prim.Native.Nat.{_+_, _<_};
-ghost use Rattle.calendar.specs.Calendar.{monthNumber, yearOf, placeOf};
-ghost use Rattle.numbers.specs.Lists.{allTo, at};
-ghost use Rattle.validity.specs.Valid.{allOf, isNoCable, contractTests, serviceTests, yearFits, pastTests, readingTests, readingsTests, volumeLimit, valid};
+ghost use Rattle.numbers.specs.Lists.{allTo};
+ghost use Rattle.validity.specs.Valid.{allOf, isNoCable, restIsZero, contractTests, serviceTests, yearBefore, yearFits, latestInRow, pastTests, readingTests, readingsTests, volumeLimit, valid};
 use calendar::Date;
+use calendar::is_month_number;
 use calendar::is_open;
 use calendar::month_number;
 use calendar::open_hours;
 use contract::Contract;
+use contract::is_agreed;
+use contract::meters_fit;
 use numbers::wide;
 use power::Cable;
 use power::cable_fits;
@@ -35,7 +35,7 @@ fn is_no_cable(k: Cable) -> bool
 
 // What the basis does not use is 0.
 fn rest_is_zero(c: Contract) -> bool
-    ensures { λ r. ⌜ r ≡ cond (eqb (c .basis) 3) (eqb (c .power .0) 0) (isNoCable (c .cable)) ⌝ }
+    ensures { λ r. ⌜ r ≡ restIsZero c ⌝ }
 {
     if c.basis == 3 {
         return c.power.0 == 0;
@@ -47,9 +47,8 @@ fn contract_fits(c: Contract) -> bool
     ensures { λ r. ⌜ r ≡ allOf (contractTests c) ⌝ }
 {
     let cabled = c.basis == 3;
-    ((c.billing == 1) | (c.billing == 2))
-        & (c.control <= 2)
-        & ((c.basis == 1) | (c.basis == 2) | cabled)
+    meters_fit(c)
+        & (is_agreed(c.basis) | cabled)
         & (c.power.0 <= 1000000)
         & (!cabled | cable_fits(c.cable))
         & rest_is_zero(c)
@@ -61,14 +60,14 @@ fn service_fits(s: Service, d: Date) -> bool
     (s.run <= 12000)
         & (s.serving <= 1)
         & (s.denials <= 2)
-        & ((s.fault == 0) | ((24169 <= s.fault) & (s.fault <= 36000)))
+        & ((s.fault == 0) | is_month_number(s.fault))
         & (s.fault <= month_number(d))
 }
 
 // Whether the row of calendar month k + 1 may hold the year y while month d is open.
 fn year_fits(y: u32, k: u32, d: Date) -> bool
     requires { ⌜ k < 12 ⌝ }
-    ensures { λ r. ⌜ r ≡ (eqb y 0 || (leb 2014 y && leb y 2999 && ltb (monthNumber (record { year = y; month = k + 1 })) (monthNumber d))) ⌝ }
+    ensures { λ r. ⌜ r ≡ yearBefore y k d ⌝ }
 {
     let month = Date {
         year: y,
@@ -92,7 +91,7 @@ fn years_fit(years: [u32; 12], d: Date) -> bool
 
 // Whether the row of the latest past month holds its year, or there is no such month.
 fn latest_in_row(p: Past) -> bool
-    ensures { λ r. ⌜ r ≡ (eqb (p .latest) 0 || eqb (at (p .years) (placeOf (p .latest))) (yearOf (p .latest))) ⌝ }
+    ensures { λ r. ⌜ r ≡ latestInRow p ⌝ }
 {
     let latest = p.latest;
     if latest == 0 {
@@ -109,8 +108,7 @@ fn past_fits(p: Past, d: Date) -> bool
 {
     let years = p.years;
     years_fit(years, d)
-        & ((p.latest == 0)
-            | ((24169 <= p.latest) & (p.latest <= 36000) & (p.latest < month_number(d))))
+        & ((p.latest == 0) | (is_month_number(p.latest) & (p.latest < month_number(d))))
         & latest_in_row(p)
 }
 

@@ -10,4 +10,5 @@ past-fits-spec =
     (λ c κs. search needs)
     (λ c κs. search needs)
     (λ c κs. search needs)
-    (λ c. rw (c .latest-in-row .ensures, c .before .before .month-number .ensures, c .before .before .before .before .before .before .years-fit .ensures)))
+    (λ c κs. search needs)
+    (λ c. rw (c .latest-in-row .ensures, c .before .before .month-number .ensures, c .before .before .before .is-month-number .ensures, c .before .before .before .before .before .years-fit .ensures)))
