@@ -45,10 +45,13 @@ uint32_t sallowbingo_month_days(uint64_t year, uint64_t month);
 /* A POINT
  *
  * The record goes in and comes back by value; the store is the caller's, an
- * array of SALLOWBINGO_STORE words, lent with its length. Flags are 1 for yes
- * and 0 for no; any other value is outside the limits, as is every other field
- * of any bits, and refused with 2. Months in a record are numbers, year * 12 +
- * month. */
+ * array of SALLOWBINGO_STORE words, lent with its length. A record of any bits
+ * may be handed in: one that is outside document 01's limits is refused with 2.
+ * Flags are 1 for yes and 0 for no, and any other value is outside. Months in a
+ * record are numbers, year * 12 + month.
+ *
+ * Every pointer is valid for the length that is lent with it, and hours and
+ * currents do not overlap the store. With length 0 a pointer may be null. */
 
 #define SALLOWBINGO_STORE 10416u
 
@@ -89,11 +92,13 @@ typedef struct {
     uint64_t latest;
 } sallowbingo_past;
 
+/* whether the reading is given, and the volume of an integral or neighbour one, else 0 */
 typedef struct {
     uint32_t given;
     sallowbingo_kwh volume;
 } sallowbingo_reading;
 
+/* of the billing and the control meter, and of the neighbour's sources 1 and 2 */
 typedef struct {
     sallowbingo_reading billing, control, first, second;
 } sallowbingo_readings;
@@ -133,7 +138,8 @@ sallowbingo_answer sallowbingo_open_point(sallowbingo_contract asked, sallowbing
                                           size_t points, size_t place, uint32_t *store, size_t words);
 
 /* This month's readings, once a month each: the hours of an interval meter, or
- * the volume of an integral one. Refusals: 1 to 3, 20 to 24. */
+ * the volume of an integral one. Refusals: 1 to 3, 20, 22 and 24; 21 for the
+ * billing meter, 23 for hours. */
 sallowbingo_answer sallowbingo_read_billing_hours(sallowbingo_record record, uint32_t *store, size_t words,
                                                   const uint32_t *hours, size_t count);
 sallowbingo_answer sallowbingo_read_control_hours(sallowbingo_record record, uint32_t *store, size_t words,
@@ -143,7 +149,8 @@ sallowbingo_answer sallowbingo_read_billing_volume(sallowbingo_record record, co
 sallowbingo_answer sallowbingo_read_control_volume(sallowbingo_record record, const uint32_t *store, size_t words,
                                                    sallowbingo_kwh volume);
 
-/* A neighbour's volume: source 1 its billing meter, 2 its control meter. */
+/* A neighbour's volume: source 1 its billing meter, 2 its control meter.
+ * Refusals: 1 to 3, 20, 22, 24. */
 sallowbingo_answer sallowbingo_read_neighbour(sallowbingo_record record, const uint32_t *store, size_t words,
                                               uint32_t source, sallowbingo_kwh volume);
 

@@ -2,7 +2,7 @@
 ghost use mathlib.Core.Path.{_≡_};
 ghost use mathlib.Core.List.{[]};
 ghost use Prim.Native.Nat.{_≤_};
-ghost use Rattle.record.specs.Record.{notGiven, withReadings, withBilling};
+ghost use Rattle.record.specs.Record.{notGiven, withReadings, withBilling, withDenials};
 ghost use Rattle.rows.specs.Store.{writtenIn};
 ghost use Rattle.rules.specs.Calls.Call.{failure, admission, denial, permission};
 ghost use Rattle.model.specs.Refusals.{anyone, failureNumber, admissionNumber, denialNumber, permissionNumber};
@@ -113,6 +113,18 @@ pub fn deny(r: Record, store: &mut [u32]) -> Answer
     answer_with(0, after)
 }
 
+// No denial counts any more, and all else stays.
+fn after_permission(s: Service) -> Service
+    ensures { λ r. ⌜ r ≡ withDenials s 0 ⌝ }
+{
+    Service {
+        run: s.run,
+        serving: s.serving,
+        denials: 0,
+        fault: s.fault,
+    }
+}
+
 fn permission_refusal(words: usize, r: Record) -> u32
     ensures { λ n. ⌜ n ≡ anyone words r (permissionNumber r) ⌝ }
 {
@@ -127,7 +139,8 @@ pub fn permit(r: Record, store: &[u32]) -> Answer
     if n != 0 {
         return answer_with(n, r);
     }
+    let service = after_permission(r.service);
     let mut after = r;
-    after.service.denials = 0;
+    after.service = service;
     answer_with(0, after)
 }

@@ -1,5 +1,5 @@
 -- A point goes on: an accepted closing works by inputs of which the rules are right, and leaves, where its run and total have room, a record that passes number 2 and a store that passes 1 and 45. Assumes nothing.
-use Prim.Native.Nat.{ℕ, _+_, _-_, _*_, _/_, _%_, _≤_, _<_}
+use Prim.Native.Nat.{ℕ, _+_, _-_, _*_, _/_, _%_, _≤_}
 use mathlib.Core.Path.{_≡_, _∙_}
 use mathlib.Core.Bool.{Bool, true, false, not, _&&_, _||_}
 use mathlib.Core.List.{List, []}

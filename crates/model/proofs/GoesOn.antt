@@ -1,5 +1,5 @@
 -- A POINT GOES ON: an accepted opening leaves a sound state, and every accepted call keeps it sound, closings included. Assumes nothing.
-use Prim.Native.Nat.{ℕ, _-_, _≤_, zero-le}
+use Prim.Native.Nat.{ℕ, _≤_, zero-le}
 use mathlib.Core.Path.{_≡_, refl, sym, ap, _∙_}
 use mathlib.Core.Logic.{_⊎_, inl, inr, ⊎-elim, _≢_}
 use mathlib.Core.Bool.{Bool, true, false, not, _&&_, _||_, false≢true}

@@ -2,7 +2,7 @@
 use Prim.Native.Nat.{ℕ, _+_, _-_, _*_, _≤_, _<_}
 use mathlib.Core.Path.{_≡_, refl, _∙_}
 use mathlib.Core.Logic.{_⊎_, inl, inr, ⊎-elim}
-use mathlib.Core.Bool.{true, not}
+use mathlib.Core.Bool.{true}
 use mathlib.Core.List.{List, []}
 use native.Mathlib.Omega.{arith}
 use native.Mathlib.Decide.{decLt}
@@ -20,7 +20,7 @@ use Rattle.rules.specs.Calls.{Opening, Call, billingHours, controlHours, billin
 use Rattle.rules.specs.Rules.{rules, becomesPast}
 use Rattle.rules.proofs.Laws.{rules-right}
 use Rattle.model.specs.Refusals.{ownRefusal}
-use Rattle.model.specs.Model.{State, state, discarded, oneDenial, slot, inputs, pastAfter, rowsAfter, closedWith, accept, accepted}
+use Rattle.model.specs.Model.{State, discarded, oneDenial, slot, inputs, pastAfter, rowsAfter, closedWith, accept, accepted}
 use Rattle.model.specs.Opening.{opened}
 use Rattle.model.specs.Sound.{Fits, ZeroFrom, monthUsed, Unused}
 use Rattle.model.proofs.Laws.{read, month-most}

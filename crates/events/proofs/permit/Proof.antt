@@ -20,6 +20,8 @@ permit-spec =
     (λ c. let a = c .before .before .before .before .args in
     refused (state (a .r) (now (a .store))) permission (c .before .before .permission-refusal .ensures) (c .before .if1 .taken) (c .answer-with .ensures))
     (λ c κs. search needs)
+    (λ c κs. search needs)
     (λ c. let p = c .before .before in
     let a = p .before .before .before .args in
-    done (state (a .r) (now (a .store))) permission (p .before .permission-refusal .ensures) (p .if1 .left) refl refl (c .answer-with2 .ensures) refl))
+    done (state (a .r) (now (a .store))) permission (p .before .permission-refusal .ensures) (p .if1 .left) refl refl
+    (rw (c .before .after-permission .ensures) at (c .answer-with2 .ensures)) refl))
