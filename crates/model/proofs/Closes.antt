@@ -71,10 +71,10 @@ measured kind t g hs f l =
     (λ n. rw n tt)
 
 -- a row of the month
-row-hours : (s : State) (r t : ℕ) → Fits s → 12 ≤ r → r ≤ 13 → t ≤ 744 → HoursFit t (rowPart (s .store) r t)
-row-hours s r t f low high l = record {
-  long = length-take-le t (drop (744 * r) (s .store)) (rw (length-drop (744 * r) (s .store)) (omega (arith, f .words)));
-  small = row-part-fits-month r t (s .store) (f .store-fits) low;
+row-hours : (store : List ℕ) (r t : ℕ) → length store ≡ 10416 → storeFits store ≡ true → 12 ≤ r → r ≤ 13 → t ≤ 744 → HoursFit t (rowPart store r t)
+row-hours store r t words fits low high l = record {
+  long = length-take-le t (drop (744 * r) store) (rw (length-drop (744 * r) store) (omega arith));
+  small = row-part-fits-month r t store fits low;
 }
 
 -- the volume of a reading is within its limit
@@ -86,27 +86,27 @@ volume-most d g has w h = leb-true _ _ (each (readingTests g has w (openHours d 
 cable-there : (c : Contract) → allOf (contractTests c) ≡ true → eqb (c .basis) 3 ≡ true → cableFits (c .cable) ≡ true
 cable-there c h t = rw t at (each (contractTests c) h .1 .1 .1 .1 .0)
 
-past-small : (s : State) → Fits s → PastHoursFit (pastIn s)
+past-small : (s : State) → storeFits (s .store) ≡ true → PastHoursFit (pastIn s)
 unfolding pastIn
 past-small s f =
     by-cases (eqb (at (s .point .past .years) (slot (s .point .date))) (s .point .date .year - 1))
-    (λ y. rw y (row-part-fits (slot (lastYear (s .point .date))) (openHours (lastYear (s .point .date))) (s .store) (f .store-fits)))
+    (λ y. rw y (row-part-fits (slot (lastYear (s .point .date))) (openHours (lastYear (s .point .date))) (s .store) f))
     (λ n.
     rw n
     (by-cases (eqb (s .point .past .latest) 0)
     (λ y. rw y tt)
-    (λ m. rw m (row-part-fits (slot (dateOf (s .point .past .latest))) (openHours (dateOf (s .point .past .latest))) (s .store) (f .store-fits)))))
+    (λ m. rw m (row-part-fits (slot (dateOf (s .point .past .latest))) (openHours (dateOf (s .point .past .latest))) (s .store) f))))
 
 -- the inputs of an accepted closing are those of which the rules are right
-pub inputs-sane : (s : State) (marks buffer : List ℕ) → Fits s → accepted s (closing marks buffer) ≡ true → Sane (inputs s marks)
+pub inputs-sane : (s : State) (marks buffer : List ℕ) → accepted s (closing marks buffer) ≡ true → Sane (inputs s marks)
 unfolding inputs
-inputs-sane s marks buffer f t =
+inputs-sane s marks buffer t =
     let r = s .point in
     let o = own s (closing marks buffer) t in
     let q = settled s marks buffer t in
-    let v = valid-parts r (f .record-fits) in
+    let v = valid-parts r (o .sound) in
     let g = readings-parts (r .readings) (r .contract) (volumeLimit (r .date)) (v .readings) in
-    let m = open-month r (f .record-fits) (o .goes) in
+    let m = open-month r (o .sound) (o .goes) in
     let e = month-hours (r .date) m in
     let short : openHours (r .date) ≤ 744 = omega (arith, e, days-high (r .date)) in
     let whole : length marks / 24 ≡ monthDays (r .date) = omega (arith, e, q .long) in
@@ -119,9 +119,9 @@ inputs-sane s marks buffer f t =
       calm = rw whole at (q .calm);
       power = leb-true _ _ (each (contractTests (r .contract)) (v .contract) .1 .1 .1 .0);
       cable = cable-there (r .contract) (v .contract);
-      billing = measured _ _ _ _ (row-hours s 12 (openHours (r .date)) f (lit≤ tt) (lit≤ tt) short) (volume-most (r .date) (r .readings .billing) true _ (g .billing));
-      control = measured _ _ _ _ (row-hours s 13 (openHours (r .date)) f (lit≤ tt) (lit≤ tt) short) (volume-most (r .date) (r .readings .control) (not (eqb (r .contract .control) 0)) _ (g .control));
-      past = past-small s f;
+      billing = measured _ _ _ _ (row-hours (s .store) 12 (openHours (r .date)) (o .size) (q .fits) (lit≤ tt) (lit≤ tt) short) (volume-most (r .date) (r .readings .billing) true _ (g .billing));
+      control = measured _ _ _ _ (row-hours (s .store) 13 (openHours (r .date)) (o .size) (q .fits) (lit≤ tt) (lit≤ tt) short) (volume-most (r .date) (r .readings .control) (not (eqb (r .contract .control) 0)) _ (g .control));
+      past = past-small s (q .fits);
     }
 
 -- THE RECORD AFTER IT
@@ -223,7 +223,7 @@ closes s marks buffer f t room =
     let v = valid-parts r (f .record-fits) in
     let h = service-parts (r .service) d (v .service) in
     let m = open-month r (f .record-fits) (o .goes) in
-    let sane = inputs-sane s marks buffer f t in
+    let sane = inputs-sane s marks buffer t in
     let right = rules-right (inputs s marks) sane in
     let u = rules (inputs s marks) in
     let old : Stored (s .store) = record { words = f .words; fits = f .store-fits } in

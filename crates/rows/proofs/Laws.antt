@@ -13,9 +13,9 @@ use lib.ListN.{length, take, drop, length-append, length-take, length-drop, leng
 use lib.Seq.{ext-getD, getD-take, getD-drop, getD-append-add, take-at, drop-at, length-take-le, take-all}
 use Rattle.numbers.specs.Lists.{at, zeros, padded, noneAbove, Filled}
 use Rattle.numbers.proofs.Laws.{both, tab-at, none-above-at, none-above-from, at-zeros, at-more, filled-padded}
-use Rattle.sharing.specs.Shares.{rowFits}
+use Rattle.sharing.specs.Shares.{rowPart, rowFits}
 use Rattle.sharing.proofs.Rule.{RowFits}
-use Rattle.rows.specs.Store.{asRow, putRow, writtenIn, emptyStore, storeFits}
+use Rattle.rows.specs.Store.{asRow, putRow, writtenIn, readFrom, emptyStore, storeFits}
 
 -- a list copied over the front of zeros
 pub copied : {d l : List ℕ} (m : ℕ) (xs : List ℕ) → Filled (at xs) d l (length xs) → d ≡ zeros m → l ≡ padded m xs
@@ -49,6 +49,33 @@ row-there size r e =
 pub written-in : (r : ℕ) (hours store : List ℕ) → r ≤ 13 → length hours ≤ 744 → length store ≡ 10416 → writtenIn r hours store ≡ putRow r (asRow hours) store
 unfolding writtenIn rowFits
 written-in r hours store row long size = rw (eq-eqb (length store) 10416 size, le-leb r 13 row, le-leb (length hours) 744 long)
+
+-- the test of a row that is read into a buffer of so many words
+pub record ReadsRow (words r t long : ℕ) : Type 0 where
+  pub size : words ≡ 10416
+  pub row : r ≤ 13
+  pub hours : t ≤ 744
+  pub room : t ≤ long
+
+pub read-there : (size r t room : ℕ) → eqb size 10416 && leb r 13 && leb t 744 && leb t room ≡ true → ReadsRow size r t room
+read-there size r t room e =
+    let p = both (eqb size 10416 && leb r 13 && leb t 744) (leb t room) e in
+    let q = both (eqb size 10416 && leb r 13) (leb t 744) (p .0) in
+    let s = both (eqb size 10416) (leb r 13) (q .0) in
+    record { size = eqb-true _ _ (s .0); row = leb-true _ _ (s .1); hours = leb-true _ _ (q .1); room = leb-true _ _ (p .1) }
+
+-- the part of the store from the row's start, copied over a buffer
+pub row-read : (store : List ℕ) (r t : ℕ) (buffer after : List ℕ) → eqb (length store) 10416 && leb r 13 && leb t 744 && leb t (length buffer) ≡ true
+    → after ≡ padded (length buffer) (take (744 * r + t - 744 * r) (drop (744 * r) store)) → after ≡ readFrom store r t buffer
+unfolding readFrom rowFits
+row-read store r t buffer after there e = rw (there, e, add-sub-cancel-left (744 * r) t)
+
+-- and of a row and a buffer that are there
+pub read-from : (store : List ℕ) (r t : ℕ) (buffer : List ℕ) → length store ≡ 10416 → r ≤ 13 → t ≤ 744 → t ≤ length buffer
+    → readFrom store r t buffer ≡ padded (length buffer) (rowPart store r t)
+unfolding readFrom rowFits
+read-from store r t buffer size row few room =
+    rw (eq-eqb (length store) 10416 size, le-leb r 13 row, le-leb t 744 few, le-leb t (length buffer) room)
 
 -- the part of the store from the row's start to its end, filled and put back
 pub written-part : (r : ℕ) (hours store filled : List ℕ) → RowFits (length store) r (length hours)

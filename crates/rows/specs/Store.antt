@@ -2,9 +2,10 @@
 use Prim.Native.Nat.{ℕ, _*_}
 use mathlib.Core.Bool.{Bool, cond, _&&_}
 use mathlib.Core.List.{List, [], _++_}
+use lib.Dec.{leb}
 use lib.ListN.{length, take, drop}
 use Rattle.numbers.specs.Lists.{zeros, padded, noneAbove}
-use Rattle.sharing.specs.Shares.{rowFits}
+use Rattle.sharing.specs.Shares.{rowPart, rowFits}
 
 -- hours as a whole row: 0 from their end on
 abbrev pub asRow : List ℕ → List ℕ
@@ -24,6 +25,10 @@ withoutHours r store = withHours r [] store
 -- the same where the store has that row and a row holds so many hours, else the store as it was
 unfoldable pub writtenIn : ℕ → List ℕ → List ℕ → List ℕ
 writtenIn r hours store = cond (rowFits (length store) r (length hours)) (withHours r hours store) store
+
+-- a buffer with the first t hours of row r, and 0 from t on, where the store has that row and the buffer holds so many hours; else the buffer as it was
+unfoldable pub readFrom : List ℕ → ℕ → ℕ → List ℕ → List ℕ
+readFrom store r t buffer = cond (rowFits (length store) r t && leb t (length buffer)) (padded (length buffer) (rowPart store r t)) buffer
 
 -- as an opening leaves it
 abbrev pub emptyStore : List ℕ

@@ -7,7 +7,7 @@ ghost use Prim.Native.Nat.{_≤_};
 ghost use lib.Dec.{eqb};
 ghost use lib.ListN.{length};
 ghost use Rattle.numbers.specs.Lists.{at, padded, Filled};
-ghost use Rattle.rows.specs.Store.{writtenIn, emptyStore, storeFits};
+ghost use Rattle.rows.specs.Store.{writtenIn, readFrom, emptyStore, storeFits};
 use numbers::clear;
 use numbers::none_above;
 
@@ -41,6 +41,18 @@ pub fn write_row(store: &mut [u32], row: usize, hours: &[u32])
         let start = 744 * row;
         let end = start + 744;
         copy_row(&mut store[start..end], hours);
+    }
+}
+
+// The first t hours of row r into a buffer, with 0 from t on. A store that is not 14 rows, a row that it does not have, and
+// more hours than a row or the buffer holds leave the buffer as it was.
+pub fn read_row(store: &[u32], row: usize, t: usize, hours: &mut [u32])
+    ensures { λ _. ⌜ now (hours .exit) ≡ readFrom (now (store .entry)) row t (now (hours .entry)) ⌝ }
+{
+    if (store.len() == 10416) & (row <= 13) & (t <= 744) & (t <= hours.len()) {
+        let from = 744 * row;
+        let to = from + t;
+        copy_row(hours, &store[from..to]);
     }
 }
 

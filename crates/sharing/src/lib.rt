@@ -9,9 +9,9 @@ ghost use Rattle.sharing.specs.Shares.{ones, within, sharesOver, sharesA
 ghost use Rattle.sharing.specs.Underway.{Fits};
 
 mod fill;
-mod place;
+pub mod place;
 mod progress;
-mod weights;
+pub mod weights;
 
 use fill::fill_apart;
 use fill::fill_by_past;

@@ -36,7 +36,7 @@ fn week_before(h: usize) -> usize
 }
 
 // Hour h of the past: where it lacks that hour, its hour h - 168.
-fn past_at(past: &[u32], h: usize) -> u64
+pub fn past_at(past: &[u32], h: usize) -> u64
     ensures { λ r. ⌜ (r ≡ pastAt (now (past .entry)) h) × (r ≤ 4294967295) ⌝ }
 {
     if h < past.len() {

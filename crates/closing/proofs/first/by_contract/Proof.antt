@@ -1,0 +1,21 @@
+-- `closing::by_contract` meets its contract. Assumes nothing.
+use borrow.Author.Needs.{needs}
+use Rattle.model.specs.Model.{state, inputs}
+use denote.Ref.{now}
+use Rattle.closing.proofs.Firsts.{nine-gives, eight-gives}
+use Rattle.closing.proofs.Laws.{known}
+use Rattle.closing.proofs.first.by_contract.Statement.{statement}
+use Rattle.closing.proofs.first.by_contract.Tie as tie
+
+pub by-contract-spec : {M : Type 1} → statement M
+unfolding inputs
+by-contract-spec =
+    tie.close
+    (tie.spec
+    (λ c κs. search needs)
+    (λ c κs. let k = known _ _ _ _ (c .before .before .before .before .before .before .before .pre) in rw (c .before .before .before .open-hours .ensures) (k .cable (c .before .if1 .taken), k .lent .some, k .lent .few, k .lent .room))
+    (λ c. search needs)
+    (λ c. let a = c .before .before .before .before .before .before .before .before .before .before .args in nine-gives (inputs (state (a .r) (now (a .store))) (now (a .marks))) (c .before .before .before .before .if1 .taken) (c .before .before .before .before .before .before .open-hours .ensures) (c .before .before .ground-nine .ensures))
+    (λ c κs. let k = known _ _ _ _ (c .before .before .before .before .before .before .before .pre) in rw (c .before .before .before .open-hours .ensures) (k .power, k .lent .some, k .lent .few, k .lent .room))
+    (λ c. search needs)
+    (λ c. let a = c .before .before .before .before .before .before .before .before .before .before .args in eight-gives (inputs (state (a .r) (now (a .store))) (now (a .marks))) (c .before .before .before .before .if1 .left) (c .before .before .before .before .before .before .open-hours .ensures) (c .before .before .ground-eight .ensures)))

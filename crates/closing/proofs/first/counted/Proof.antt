@@ -1,0 +1,14 @@
+-- `closing::counted` meets its contract. Assumes nothing.
+use borrow.Author.Needs.{needs}
+use Rattle.rules.specs.Rules.{countedOf}
+use Rattle.closing.proofs.first.counted.Statement.{statement}
+use Rattle.closing.proofs.first.counted.Tie as tie
+
+pub counted-spec : {M : Type 1} → statement M
+unfolding countedOf
+counted-spec =
+    tie.close
+    (tie.spec
+    (λ c. search needs)
+    (λ c κs. search needs)
+    (λ c. c .pick .ensures))

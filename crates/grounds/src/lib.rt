@@ -1,0 +1,136 @@
+// The nine grounds of a closing (document 01, 'Closing'), one function a ground. Each puts its hours into the buffer.
+// Which of them a month is closed on is decided where it is closed.
+ghost use mathlib.Core.Path.{_≡_};
+ghost use mathlib.Core.Bool.{true};
+ghost use Prim.Native.Nat.{_*_, _≤_};
+ghost use lib.ListN.{length};
+ghost use Rattle.numbers.specs.Lists.{sum};
+ghost use Rattle.sharing.specs.Shares.{ones, shares, stretched, rowPart};
+ghost use Rattle.power.specs.Power.{formula, cableFits};
+ghost use Rattle.marks.specs.Peak.{peakRule};
+ghost use Rattle.rows.specs.Store.{storeFits};
+ghost use Rattle.grounds.specs.Found.{Hands, Lent, PastFits};
+
+mod hours;
+pub mod past;
+
+use hours::as_past;
+use hours::as_read;
+use hours::by_past;
+use hours::by_peaks;
+use hours::evenly;
+use past::PastMonth;
+use power::Cable;
+use power::cable_volume;
+use units::Kw;
+use units::Kwh;
+use units::energy;
+
+// The ground that a month is closed on, and its volume.
+pub struct Found {
+    pub ground: u32,
+    pub volume: Kwh,
+}
+
+// Ground 1: billing, interval; as read.
+pub fn ground_one(store: &[u32], t: usize, hours: &mut [u32]) -> Found
+    requires { ⌜ Lent (now store) (now hours) t ⌝ }
+    ensures { λ f. ⌜ Hands 1 (sum (rowPart (now (store .entry)) 12 t)) (rowPart (now (store .entry)) 12 t) f (now (hours .exit)) ⌝ }
+{
+    as_read(1, store, 12, t, hours)
+}
+
+// Ground 2: billing, integral; the volume by the peak rule.
+pub fn ground_two(volume: Kwh, power: Kw, marks: &[u8], hours: &mut [u32]) -> Found
+    requires { ⌜ (volume .0 ≤ 744000000) × (1 ≤ length (now marks)) × (length (now marks) ≤ 744) × (length (now hours) ≡ 744) ⌝ }
+    ensures { λ f. ⌜ Hands 2 (volume .0) (peakRule (volume .0) (power .0) (now (marks .entry))) f (now (hours .exit)) ⌝ }
+{
+    by_peaks(2, volume, power, marks, hours)
+}
+
+// Ground 3: control, interval; as read.
+pub fn ground_three(store: &[u32], t: usize, hours: &mut [u32]) -> Found
+    requires { ⌜ Lent (now store) (now hours) t ⌝ }
+    ensures { λ f. ⌜ Hands 3 (sum (rowPart (now (store .entry)) 13 t)) (rowPart (now (store .entry)) 13 t) f (now (hours .exit)) ⌝ }
+{
+    as_read(3, store, 13, t, hours)
+}
+
+// Ground 4: control, integral, after at most two missed months; the volume shared by the past.
+pub fn ground_four(
+    volume: Kwh,
+    store: &[u32],
+    past: PastMonth,
+    t: usize,
+    hours: &mut [u32],
+) -> Found
+    requires { ⌜ Lent (now store) (now hours) t × PastFits past ⌝ }
+    requires { ⌜ (storeFits (now store) ≡ true) × (volume .0 ≤ 744000000) ⌝ }
+    ensures { λ f. ⌜
+        Hands 4 (volume .0) (shares (volume .0) (stretched (rowPart (now (store .entry)) (past .row) (past .hours)) t)) f (now (hours .exit))
+        ⌝ }
+{
+    by_past(
+        4,
+        volume,
+        store,
+        past.row as usize,
+        past.hours as usize,
+        t,
+        hours,
+    )
+}
+
+// Ground 5: control, integral, otherwise; the volume by the peak rule.
+pub fn ground_five(volume: Kwh, power: Kw, marks: &[u8], hours: &mut [u32]) -> Found
+    requires { ⌜ (volume .0 ≤ 744000000) × (1 ≤ length (now marks)) × (length (now marks) ≤ 744) × (length (now hours) ≡ 744) ⌝ }
+    ensures { λ f. ⌜ Hands 5 (volume .0) (peakRule (volume .0) (power .0) (now (marks .entry))) f (now (hours .exit)) ⌝ }
+{
+    by_peaks(5, volume, power, marks, hours)
+}
+
+// Ground 6: the same as ground 4 later on, where the peak rule would take less in the peak hours.
+pub fn ground_six(volume: Kwh, store: &[u32], past: PastMonth, t: usize, hours: &mut [u32]) -> Found
+    requires { ⌜ Lent (now store) (now hours) t × PastFits past ⌝ }
+    requires { ⌜ (storeFits (now store) ≡ true) × (volume .0 ≤ 744000000) ⌝ }
+    ensures { λ f. ⌜
+        Hands 6 (volume .0) (shares (volume .0) (stretched (rowPart (now (store .entry)) (past .row) (past .hours)) t)) f (now (hours .exit))
+        ⌝ }
+{
+    by_past(
+        6,
+        volume,
+        store,
+        past.row as usize,
+        past.hours as usize,
+        t,
+        hours,
+    )
+}
+
+// Ground 7: no control reading, after at most two missed months; the hours of the past.
+pub fn ground_seven(store: &[u32], past: PastMonth, t: usize, hours: &mut [u32]) -> Found
+    requires { ⌜ Lent (now store) (now hours) t × PastFits past ⌝ }
+    ensures { λ f. ⌜
+        Hands 7 (sum (stretched (rowPart (now (store .entry)) (past .row) (past .hours)) t)) (stretched (rowPart (now (store .entry)) (past .row) (past .hours)) t)
+        f (now (hours .exit))
+        ⌝ }
+{
+    as_past(7, store, past.row as usize, past.hours as usize, t, hours)
+}
+
+// Ground 8: basis 1 or 2; P × T evenly.
+pub fn ground_eight(power: Kw, t: u32, hours: &mut [u32]) -> Found
+    requires { ⌜ (power .0 ≤ 1000000) × (1 ≤ t) × (t ≤ 744) × (length (now hours) ≡ 744) ⌝ }
+    ensures { λ f. ⌜ Hands 8 (t * power .0) (shares (t * power .0) (ones t)) f (now (hours .exit)) ⌝ }
+{
+    evenly(8, energy(t, power), t as usize, hours)
+}
+
+// Ground 9: basis 3; the formula at T evenly.
+pub fn ground_nine(cable: Cable, t: u32, hours: &mut [u32]) -> Found
+    requires { ⌜ (cableFits cable ≡ true) × (1 ≤ t) × (t ≤ 744) × (length (now hours) ≡ 744) ⌝ }
+    ensures { λ f. ⌜ Hands 9 (formula cable t) (shares (formula cable t) (ones t)) f (now (hours .exit)) ⌝ }
+{
+    evenly(9, cable_volume(cable, t), t as usize, hours)
+}
