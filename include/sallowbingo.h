@@ -55,6 +55,9 @@ uint32_t sallowbingo_month_days(uint64_t year, uint64_t month);
 
 #define SALLOWBINGO_STORE 10416u
 
+/* The words of a row of the store, and of the hour buffer of a closing. */
+#define SALLOWBINGO_ROW 744u
+
 /* A power in kW, and a volume in kWh. */
 typedef struct {
     uint32_t kw;
@@ -161,6 +164,22 @@ sallowbingo_answer sallowbingo_fail(sallowbingo_record record, uint32_t *store, 
 sallowbingo_answer sallowbingo_admit(sallowbingo_record record, const uint32_t *store, size_t words);
 sallowbingo_answer sallowbingo_deny(sallowbingo_record record, uint32_t *store, size_t words);
 sallowbingo_answer sallowbingo_permit(sallowbingo_record record, const uint32_t *store, size_t words);
+
+/* Closes the open month: puts its hours into the hour buffer, which is
+ * SALLOWBINGO_ROW words and gets 0 from the month's end on, its ground, volume,
+ * capacity, C and d into the answer's figures, and opens the next month. There
+ * is one mark an hour: 0 ordinary, 1 planned peak, 2 capacity hour, 3 both.
+ * Marks and hours overlap neither the store nor each other. Refusals: 1 to 3,
+ * and
+ *   40  not as many marks as the month has hours
+ *   41  a mark above 3
+ *   42  over 16 peak hours in a day
+ *   43  two or more capacity hours in a day, or peak hours without one
+ *   44  hour buffer not SALLOWBINGO_ROW words
+ *   45  a word of the store above 3,000,000 in rows 0 to 11, or above
+ *       1,000,000 in 12 or 13 */
+sallowbingo_answer sallowbingo_close(sallowbingo_record record, uint32_t *store, size_t words, const uint8_t *marks,
+                                     size_t count, uint32_t *hours, size_t room);
 
 #ifdef __cplusplus
 }

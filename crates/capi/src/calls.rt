@@ -1,10 +1,11 @@
 // The calls on a point through C: each takes the record by value, the store and the hours as a pointer and a length, and
 // answers a struct by value. A wrapper has the contract of the call behind it.
 ghost use mathlib.Core.List.{[]};
-ghost use Rattle.rules.specs.Calls.Call.{billingHours, billingVolume, controlHours, controlVolume, neighbour, failure, admission, denial, permission};
+ghost use Rattle.rules.specs.Calls.Call.{billingHours, billingVolume, controlHours, controlVolume, neighbour, failure, admission, denial, permission, closing};
 ghost use Rattle.model.specs.Model.{state, Does};
 ghost use Rattle.model.specs.Opening.{Opens};
 use calendar::Date;
+use closing::close;
 use contract::Contract;
 use events::admit;
 use events::deny;
@@ -109,4 +110,18 @@ pub extern "C" fn sallowbingo_permit(r: Record, store: &[u32]) -> Answer
     ensures { λ a. ⌜ Does (state r (now (store .entry))) permission a (now (store .entry)) [] ⌝ }
 {
     permit(r, store)
+}
+
+#[no_mangle]
+pub extern "C" fn sallowbingo_close(
+    r: Record,
+    store: &mut [u32],
+    marks: &[u8],
+    hours: &mut [u32],
+) -> Answer
+    ensures { λ a. ⌜
+        Does (state r (now (store .entry))) (closing (now (marks .entry)) (now (hours .entry))) a (now (store .exit)) (now (hours .exit))
+        ⌝ }
+{
+    close(r, store, marks, hours)
 }

@@ -1,0 +1,174 @@
+-- What counts at a closing is the same from the record and store as from the book that describes them. Assumes nothing.
+use Prim.Native.Nat.{ℕ, _+_, _-_, _*_, _≤_, _<_}
+use mathlib.Core.Path.{_≡_, refl, sym, ap, _∙_}
+use mathlib.Core.Bool.{true, cond}
+use mathlib.Core.List.{List, [], _∷_}
+use native.Mathlib.Omega.{arith}
+use borrow.Author.Tests.{eqb-true, eqb-false, eq-eqb, ne-eqb}
+use lib.Dec.{eqb, lit≤}
+use lib.ListN.{length, take, drop}
+use lib.Seq.{take-take}
+use Rattle.numbers.proofs.Laws.{by-cases, both, at-tab}
+use Rattle.calendar.specs.declared.Date.{Date}
+use Rattle.calendar.specs.Calendar.{isEnd, openHours, monthNumber, dateOf}
+use Rattle.calendar.proofs.Laws.{hours-high, number-next, date-number, same-date, OpenLimits, open-limits}
+use Rattle.sharing.specs.Shares.{rowPart}
+use Rattle.contract.specs.Contract.{kept}
+use Rattle.rows.specs.Store.{asRow}
+use Rattle.rules.specs.Calls.{Opening}
+use Rattle.rules.specs.Rules.{Measured, missing, hourly, whole, Stated, unstated, stated, PastHours, none, some, becomesPast}
+use Rattle.model.specs.Model.{measuredIn, statedIn, slot, lastYear, pastIn, inputs}
+use Rattle.history.specs.Book.{Entry, Book, control, closed, is, monthOf, billingOf, thisMonths, sourceOf, isMetered, hoursAt, latestHours, orElse, pastOf, inputsOf}
+use Rattle.history.proofs.Rows.{take-row, row-hours}
+use Rattle.history.proofs.View.{givenBy, statedBy, hoursOf, latestOf, yearIn, lastIn, contents, pointOf, seen, Formed, Entered, Fine, Shows}
+use Rattle.history.proofs.Months.{month-open, grows}
+
+-- no month has more hours than a row
+pub hours-most : (d : Date) → openHours d ≤ 744
+unfolding openHours
+hours-most d = by-cases (isEnd d) (λ t. rw t (lit≤ tt)) (λ f. rw f (hours-high d))
+
+-- THIS MONTH'S READINGS
+reading-same : (kind t : ℕ) (m : Measured) → Formed kind t m → (hs : List ℕ) → (length (hoursOf m) ≡ t → hs ≡ hoursOf m) → measuredIn kind (givenBy m) hs ≡ m
+unfolding measuredIn givenBy hoursOf Formed
+reading-same kind t missing f hs e = refl
+reading-same kind t (hourly xs) f hs e = rw (eq-eqb kind 1 (f .0), e (f .1))
+reading-same kind t (whole v) f hs e = rw f
+
+stated-same : (q : Stated) → statedIn (statedBy q) ≡ q
+unfolding statedIn statedBy
+stated-same unstated = refl
+stated-same (stated v) = refl
+
+-- THE PAST
+-- a closing on ground 1 or 2 opens the next month
+metered-closed : (e : Entry) → isMetered e ≡ true → is closed e ≡ true
+unfolding isMetered
+metered-closed e m = both (is closed e) (becomesPast (e .out)) m .0
+
+after-metered : (o : Opening) (e : Entry) (es : Book) → Entered o e es → isMetered e ≡ true → monthNumber (monthOf o (e ∷ es)) ≡ monthNumber (monthOf o es) + 1
+unfolding monthOf
+after-metered o e es f m =
+    let t = metered-closed e m in
+    rw t (number-next (monthOf o es) (f .month t))
+
+-- no month from the one that is open on was closed
+none-at : (o : Opening) (n : ℕ) (es : Book) → Fine o es → monthNumber (monthOf o es) ≤ n → hoursAt o n es ≡ none
+unfolding hoursAt Fine
+none-at o n [] f l = refl
+none-at o n (e ∷ es) f l =
+    let g = grows o e es (f .0) in
+    by-cases (isMetered e)
+    (λ m.
+    let s = after-metered o e es (f .0) m in
+    rw (m, ne-eqb (monthNumber (monthOf o es)) n (omega arith)) (none-at o n es (f .1) (omega arith)))
+    (λ m. rw m (none-at o n es (f .1) (omega arith)))
+
+-- the number of a month by its row
+number-of : (d : Date) → 1 ≤ d .month → monthNumber d ≡ d .year * 12 + slot d + 1
+unfolding monthNumber
+number-of d l = omega arith
+
+pub record Told (d : Date) : Type 0 where
+  pub first : 1 ≤ d .month
+  pub last : d .month ≤ 12
+  pub year : 0 < d .year
+
+-- the row of a month, if it holds the year of the date d, is the book's of that date; it is asked for at most 12 months later
+year-same : (o : Opening) (es : Book) → Fine o es → (d : Date) → Told d → monthNumber (monthOf o es) ≤ monthNumber d + 12 → (q : PastHours)
+    → cond (eqb (yearIn o es (slot d)) (d .year)) (some (take (openHours d) (asRow (lastIn o es (slot d))))) q ≡ orElse (hoursAt o (monthNumber d) es) q
+unfolding Fine yearIn lastIn hoursAt orElse
+year-same o [] f d h l q = rw (ne-eqb 0 (d .year) (omega (arith, h .year)))
+year-same o (e ∷ es) f d h l q =
+    let g = grows o e es (f .0) in
+    by-cases (isMetered e)
+    (λ m.
+    let s = after-metered o e es (f .0) m in
+    let d₀ : Date = monthOf o es in
+    let k : OpenLimits d₀ = open-limits d₀ (month-open o es (f .1)) in
+    let nd = number-of d (h .first) in
+    let n₀ = number-of d₀ (k .first) in
+    by-cases (eqb (slot d) (slot d₀))
+    (λ t.
+    let st : slot d ≡ slot d₀ = eqb-true (slot d) (slot d₀) t in
+    by-cases (eqb (d₀ .year) (d .year))
+    (λ z.
+    let yz : d₀ .year ≡ d .year = eqb-true (d₀ .year) (d .year) z in
+    let nz : monthNumber d₀ ≡ monthNumber d = omega arith in
+    let dz : d₀ ≡ d = same-date d₀ d (k .first) (k .last) (h .first) (h .last) nz in
+    rw (m, t, z, eq-eqb (monthNumber d₀) (monthNumber d) nz, take-row (e .out .hours) (openHours d) (f .0 .long m ∙ ap openHours dz)))
+    (λ z.
+    let other = eqb-false (d₀ .year) (d .year) z in
+    rw (m, t, z, ne-eqb (monthNumber d₀) (monthNumber d) (omega arith), none-at o (monthNumber d) es (f .1) (omega arith))))
+    (λ z.
+    let other = eqb-false (slot d) (slot d₀) z in
+    rw (m, z, ne-eqb (monthNumber d₀) (monthNumber d) (omega (arith, h .last, k .last))) (year-same o es (f .1) d h (omega arith) q)))
+    (λ m. rw m (year-same o es (f .1) d h (omega arith) q))
+
+latest-same : (o : Opening) (es : Book) → Fine o es
+    → cond (eqb (latestOf o es) 0) none (some (take (openHours (dateOf (latestOf o es))) (asRow (lastIn o es (slot (dateOf (latestOf o es))))))) ≡ latestHours es
+unfolding Fine latestOf lastIn latestHours
+latest-same o [] f = refl
+latest-same o (e ∷ es) f =
+    by-cases (isMetered e)
+    (λ m.
+    let d : Date = monthOf o es in
+    let k : OpenLimits d = open-limits d (month-open o es (f .1)) in
+    rw (
+      m,
+      ne-eqb (monthNumber d) 0 (λ z. omega arith),
+      date-number d (k .first) (k .last),
+      eq-eqb (slot d) (slot d) refl,
+      take-row (e .out .hours) (openHours d) (f .0 .long m),
+    ))
+    (λ m. rw m (latest-same o es (f .1)))
+
+-- the row of a calendar month
+pub month-contents : (o : Opening) (es : Book) (r : ℕ) → r < 12 → contents o es r ≡ lastIn o es r
+unfolding contents
+month-contents o es r l = rw (ne-eqb r 12 (omega arith), ne-eqb r 13 (omega arith))
+
+module _ (o : Opening) (es : Book) (store : List ℕ) (h : Shows o es (seen o es store)) where
+  part : (r : ℕ) (d : Date) → r < 12 → rowPart store r (openHours d) ≡ take (openHours d) (asRow (lastIn o es r))
+  part r d l = sym (take-take (openHours d) 744 (drop (744 * r) store) (hours-most d)) ∙ rw (h .rows .rows r (omega arith), month-contents o es r l)
+
+  last-slot : (n : ℕ) → slot (dateOf n) < 12
+  unfolding dateOf
+  last-slot n = omega arith
+
+  last-number : (d : Date) → 0 < d .year → monthNumber d - 12 ≡ monthNumber (lastYear d)
+  unfolding monthNumber
+  last-number d y = omega arith
+
+  year-low : (d : Date) → OpenLimits d → 2014 ≤ d .year
+  unfolding monthNumber
+  year-low d k = omega (arith, k .from, k .last)
+
+  past-same : pastIn (seen o es store) ≡ pastOf o es
+  unfolding pastIn pointOf pastOf
+  past-same =
+      let d : Date = monthOf o es in
+      let k : OpenLimits d = open-limits d (month-open o es (h .fine)) in
+      let y = year-low d k in
+      let n = last-number d (omega arith) in
+      rw (
+        at-tab 12 (yearIn o es) (slot d) (omega (arith, k .last)),
+        part (slot d) (lastYear d) (omega (arith, k .last)),
+        part (slot (dateOf (latestOf o es))) (dateOf (latestOf o es)) (last-slot (latestOf o es)),
+        latest-same o es (h .fine),
+        n,
+      )
+      (year-same o es (h .fine) (lastYear d) (record { first = k .first; last = k .last; year = omega arith }) (omega (arith, k .from)) (latestHours es))
+
+  -- THE INPUTS
+  pub inputs-same : (marks : List ℕ) → inputs (seen o es store) marks ≡ inputsOf o es marks
+  unfolding inputs inputsOf pointOf kept contents
+  inputs-same marks =
+      let t : ℕ = openHours (monthOf o es) in
+      rw (
+        past-same,
+        reading-same (o .asked .billing) t (billingOf es) (h .billing) (rowPart store 12 t) (row-hours (h .rows) 12 t (lit≤ tt) (hours-most _)),
+        reading-same (o .asked .control) t (thisMonths (is control) es) (h .control) (rowPart store 13 t) (row-hours (h .rows) 13 t (lit≤ tt) (hours-most _)),
+        stated-same (sourceOf 1 es),
+        stated-same (sourceOf 2 es),
+      )

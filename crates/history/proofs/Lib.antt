@@ -1,0 +1,9 @@
+pub mod Closings
+pub mod Examples
+pub mod History
+pub mod Inputs
+pub mod Lists
+pub mod Months
+pub mod Rows
+pub mod Steps
+pub mod View
