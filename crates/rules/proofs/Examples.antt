@@ -28,9 +28,9 @@ neighbours :
 unfolding neighbourOf
 neighbours = (refl, refl, refl, refl, refl)
 
--- ground 6 is not for marks without peak hours
-six : (groundSix 6 1 2 3 ≡ false) × (groundSix 6 1 2 4 ≡ true) × (groundSix 0 1 0 4 ≡ false) × (groundSix 0 1 1 0 ≡ false)
-six = (refl, refl, refl, refl)
+-- ground 6 is not for marks without peak hours; 7 / 2 is below 4 / 1, though both are 4 as rounded capacities
+six : (groundSix 6 1 2 3 ≡ false) × (groundSix 6 1 2 4 ≡ true) × (groundSix 0 1 0 4 ≡ false) × (groundSix 0 1 1 0 ≡ false) × (groundSix 7 1 2 4 ≡ true)
+six = (refl, refl, refl, refl, refl)
 
 -- a closing of January 2023: contract, marks, R, billing and control readings, N, past
 abbrev agreed : ℕ → Contract
@@ -102,3 +102,10 @@ ground-8 = ((refl, refl), (refl, refl))
 ground-9 : Gives (january cabled plain 3 missing missing 0 past) 9 30802
 unfolding working
 ground-9 = (refl, refl)
+
+-- what a closing returns: C 4 + 3 in the capacity hours of two days, d 2, capacity 7 / 2 rounded half up
+returned :
+    figures (asRead 1 (set (set (zeros 744) 10 4) 34 3)) (set marked 34 2)
+    ≡ record { ground = 1; volume = record { 0 = 7 }; capacity = record { 0 = 4 }; sum = record { 0 = 7 }; days = 2 }
+unfolding working
+returned = refl
