@@ -2,69 +2,16 @@
  * with integral ones, and readings at the limits of each length of month; then bad input: stores of other lengths, records
  * of any bits, hours of any length and value, any number for year, month, kind, basis, reason, source and volume. Each
  * gives a number of document 01, the record as given and the store as it was. */
-#include "sallowbingo.h"
-
-#include "check.h"
+#include "point.h"
 
 #include <stddef.h>
-#include <string.h>
 
-typedef sallowbingo_record record;
-typedef sallowbingo_answer answer;
+static uint32_t hours[1000000];
+static uint8_t marks[672];
 
-/* A store with words to spare, so that a wrong length can be lent and a word written past the end is seen. */
-#define ROOM (2 * SALLOWBINGO_STORE)
-static uint32_t store[ROOM], was[ROOM], hours[1000000];
-
-static int same_reading(sallowbingo_reading a, sallowbingo_reading b) {
-    return a.given == b.given && a.volume.kwh == b.volume.kwh;
-}
-
-static int same_contract(sallowbingo_contract a, sallowbingo_contract b) {
-    return a.billing == b.billing && a.control == b.control && a.basis == b.basis && a.power.kw == b.power.kw
-        && a.cable.amperes == b.cable.amperes && a.cable.volts == b.cable.volts && a.cable.cosine == b.cable.cosine
-        && a.cable.phases == b.cable.phases;
-}
-
-static int same(record a, record b) {
-    return a.opened == b.opened && same_contract(a.contract, b.contract) && a.date.year == b.date.year
-        && a.date.month == b.date.month && a.service.run == b.service.run && a.service.serving == b.service.serving
-        && a.service.denials == b.service.denials && a.service.fault == b.service.fault
-        && memcmp(a.past.years, b.past.years, sizeof a.past.years) == 0 && a.past.latest == b.past.latest
-        && same_reading(a.readings.billing, b.readings.billing) && same_reading(a.readings.control, b.readings.control)
-        && same_reading(a.readings.first, b.readings.first) && same_reading(a.readings.second, b.readings.second)
-        && a.total.kwh == b.total.kwh;
-}
-
-static int no_figures(answer a) {
-    return a.figures.ground == 0 && a.figures.volume.kwh == 0 && a.figures.capacity.kw == 0 && a.figures.sum.kwh == 0
-        && a.figures.days == 0;
-}
-
-static record zeros(void) {
-    record r;
-    memset(&r, 0, sizeof r);
-    return r;
-}
-
-static sallowbingo_contract agreed(uint32_t billing, uint32_t control, uint32_t power) {
-    sallowbingo_contract c = zeros().contract;
-    c.billing = billing, c.control = control, c.basis = 1, c.power.kw = power;
-    return c;
-}
-
-static sallowbingo_date on(uint32_t year, uint32_t month) { return (sallowbingo_date){year, month}; }
-static sallowbingo_kwh kwh(uint64_t v) { return (sallowbingo_kwh){v}; }
-
-/* The record of a point that was opened, by hand. */
-static record fresh(sallowbingo_contract c, uint32_t year, uint32_t month) {
-    record r = zeros();
-    r.opened = 1, r.contract = c, r.date = on(year, month), r.service.serving = 1;
-    return r;
-}
-
-/* THE NINE CALLS that take a record, each with arguments that fit a point of the contract given with it. */
-enum { BILLING_HOURS, BILLING_VOLUME, CONTROL_HOURS, CONTROL_VOLUME, NEIGHBOUR, FAIL, ADMIT, DENY, PERMIT, CALLS };
+/* THE TEN CALLS that take a record, each with arguments that fit a point of the contract given with it; a closing has no
+ * marks but ordinary ones. */
+enum { BILLING_HOURS, BILLING_VOLUME, CONTROL_HOURS, CONTROL_VOLUME, NEIGHBOUR, FAIL, ADMIT, DENY, PERMIT, CLOSE, CALLS };
 
 static answer call_on(int which, record r, uint32_t *lent, size_t words) {
     switch (which) {
@@ -76,7 +23,8 @@ static answer call_on(int which, record r, uint32_t *lent, size_t words) {
     case FAIL: return sallowbingo_fail(r, lent, words, 1);
     case ADMIT: return sallowbingo_admit(r, lent, words);
     case DENY: return sallowbingo_deny(r, lent, words);
-    default: return sallowbingo_permit(r, lent, words);
+    case PERMIT: return sallowbingo_permit(r, lent, words);
+    default: return sallowbingo_close(r, lent, words, marks, COUNT(marks), buffer, HOURS);
     }
 }
 
@@ -88,7 +36,7 @@ static int may_give(int which, uint32_t number) {
     static const uint32_t own[CALLS][5] = {
         [BILLING_HOURS] = {20, 21, 22, 23, 24}, [BILLING_VOLUME] = {20, 21, 22, 24}, [CONTROL_HOURS] = {20, 22, 23, 24},
         [CONTROL_VOLUME] = {20, 22, 24}, [NEIGHBOUR] = {20, 22, 24}, [FAIL] = {30, 31}, [ADMIT] = {32}, [DENY] = {33},
-        [PERMIT] = {34},
+        [PERMIT] = {34}, [CLOSE] = {40},
     };
     int may = number == 0 || number == 2 || number == 3;
     for (size_t k = 0; k < COUNT(own[which]); k++) may |= number == own[which][k];
@@ -104,23 +52,25 @@ static record ready(int which) {
     return r;
 }
 
-static void remember(void) { memcpy(was, store, sizeof store); }
-static void restore(void) { memcpy(store, was, sizeof store); }
+static void restore(void) {
+    memcpy(store, was, sizeof store);
+    memcpy(buffer, buffer_was, sizeof buffer);
+}
 
 static void fill_store(void) {
     for (size_t k = 0; k < ROOM; k++) store[k] = (uint32_t)(k * 2654435761u);
     remember();
 }
 
-static void fill_hours(uint32_t word) {
-    for (size_t h = 0; h < COUNT(hours); h++) hours[h] = word;
+/* Words of any bits, or where a closing is to be accepted up to the limit that it alone looks at. */
+static void fill_for(int which) {
+    fill_store();
+    for (size_t k = 0; k < ROOM && which == CLOSE; k++) store[k] %= 1000001;
+    remember();
 }
 
-static int untouched(void) { return memcmp(was, store, sizeof store) == 0; }
-
-/* The answer is that refusal, with the record given and no figures, and the store is as it was. */
-static int refused(answer a, uint32_t number, record given) {
-    return a.refusal == number && same(a.after, given) && no_figures(a) && untouched();
+static void fill_hours(uint32_t word) {
+    for (size_t h = 0; h < COUNT(hours); h++) hours[h] = word;
 }
 
 static int accepted(answer a, record after) { return a.refusal == 0 && same(a.after, after) && no_figures(a); }
@@ -456,8 +406,8 @@ static void repeats(void) {
 
 static void lengths(void) {
     static const size_t words[] = {0, 1, 744, 10415, 10417, ROOM};
-    fill_store();
     for (int which = 0; which < CALLS; which++) {
+        fill_for(which);
         for (size_t k = 0; k < COUNT(words); k++) {
             CHECK(refused(call(which, ready(which), words[k]), 1, ready(which)));
             CHECK(refused(call(which, zeros(), words[k]), 1, zeros()));
@@ -543,8 +493,8 @@ static void fields_since(void) {
 /* Each field exactly at its limit: the call may have a refusal of its own, but not 2. */
 static void fields_within(void) {
     record r;
-    fill_store();
     for (int which = 0; which < CALLS; which++) {
+        fill_for(which);
         WITHIN(r.contract.power.kw = 0);
         WITHIN(r.contract.power.kw = 1000000);
         WITHIN((r.contract.basis = 2, r.contract.power.kw = 0));
@@ -637,22 +587,21 @@ static record grown(int which) {
     return r;
 }
 
-/* Records that are right but for one field, which may be right as well. */
+/* Records that are right but for one field, which may be right as well. Only an accepted closing has figures. */
 static void any_field(void) {
     int passed = 0, stopped = 0;
-    fill_store();
     fill_hours(7);
     for (int which = 0; which < CALLS; which++) {
+        fill_for(which);
         CHECK(call(which, grown(which), SALLOWBINGO_STORE).refusal == 0);
         restore();
-    }
-    for (int k = 0; k < 20000; k++) {
-        int which = k % CALLS;
-        record r = with_one_changed(k % 2 ? ready(which) : grown(which));
-        answer a = call(which, r, SALLOWBINGO_STORE);
-        CHECK(may_give(which, a.refusal) && no_figures(a));
-        if (a.refusal == 0) passed++, restore();
-        else stopped++, CHECK(refused(a, a.refusal, r));
+        for (int k = 0; k < 2000; k++) {
+            record r = with_one_changed(k % 2 ? ready(which) : grown(which));
+            answer a = call(which, r, SALLOWBINGO_STORE);
+            CHECK(may_give(which, a.refusal) && no_figures(a) == (which != CLOSE || a.refusal != 0));
+            if (a.refusal == 0) passed++, restore();
+            else stopped++, CHECK(refused(a, a.refusal, r));
+        }
     }
     CHECK(passed > 1000 && stopped > 1000);
 }
