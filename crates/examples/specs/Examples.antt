@@ -3,16 +3,20 @@ use Prim.Native.Nat.{ℕ}
 use mathlib.Core.Path.{_≡_}
 use mathlib.Core.Bool.{true, false}
 use mathlib.Core.List.{List, [], _∷_}
+use lib.ListN.{length}
+use Rattle.numbers.specs.Lists.{at, zeros}
 use Rattle.calendar.specs.declared.Date.{Date}
-use Rattle.calendar.specs.Calendar.{monthDays, monthNumber}
-use Rattle.sharing.specs.Shares.{shares}
+use Rattle.calendar.specs.Calendar.{monthDays, openHours, monthNumber}
+use Rattle.sharing.specs.Shares.{shares, stretched}
 use Rattle.power.specs.declared.Cable.{Cable}
 use Rattle.power.specs.Power.{formula, sharedPower}
 use Rattle.marks.specs.Marks.{capacityOf}
 use Rattle.marks.specs.Peak.{peakRule}
 use Rattle.record.specs.declared.Service.{Service}
+use Rattle.rules.specs.Calls.{Opening, Call, closing}
 use Rattle.rules.specs.Rules.{groundSix}
-use Rattle.model.specs.Model.{afterFailure}
+use Rattle.model.specs.Model.{State, afterFailure, leaves}
+use Rattle.model.specs.Opening.{opened}
 
 abbrev pub february : ℕ → Date
 february y = record { year = y; month = 2 }
@@ -31,6 +35,24 @@ month y m = record { year = y; month = m }
 -- five missed months in a row, and a fault in a month before
 abbrev pub faulted : Date → Service
 faulted d = record { run = 5; serving = 1; denials = 0; fault = monthNumber d }
+
+-- a point with 1 kW, opened in January 2023
+abbrev pub oneKilowatt : Opening
+oneKilowatt =
+    record {
+      asked = record { billing = 1; control = 0; basis = 1; power = record { 0 = 1 }; cable = cable 0 0 0 0 };
+      date = month 2023 1;
+      currents = [];
+      place = 0;
+    }
+
+-- the closing of a month of t hours, none of them marked
+abbrev pub plainly : ℕ → Call
+plainly t = closing (zeros t) (zeros 744)
+
+-- the record and store that three closings leave in the model, each accepted or refused as it may be
+unfoldable pub afterMarch : State
+afterMarch = leaves (leaves (leaves (opened oneKilowatt) (plainly 744)) (plainly 672)) (plainly 744)
 
 pub record Examples : Type 0 where
   -- a) February: 2023 28 days, 2024 29, 2100 28, 2400 29
@@ -59,3 +81,7 @@ pub record Examples : Type 0 where
   pub l :
       (afterFailure (faulted (month 2023 1)) (month 2024 1) 1 .run ≡ 0)
       × (afterFailure (faulted (month 2023 1)) (month 2024 2) 1 .run ≡ 5)
+  -- m) 1 kW, no reading, January to March 2023: 2,160
+  pub m : afterMarch .point .total .0 ≡ 2160
+  -- n) hour 672 of February 2024 from February 2023: its hour 504
+  pub n : (past : List ℕ) → length past ≡ openHours (february 2023) → at (stretched past (openHours (february 2024))) 672 ≡ at past 504

@@ -1,4 +1,4 @@
--- Every example by computation. Assumes nothing.
+-- Every example. Assumes nothing.
 use mathlib.Core.Path.{refl}
 use Rattle.numbers.specs.Rounding.{halfUp}
 use Rattle.calendar.specs.Calendar.{leapYear, isMonth, monthDays, monthNumber}
@@ -7,6 +7,7 @@ use Rattle.power.specs.Power.{formula, sharedPower}
 use Rattle.marks.specs.Marks.{peakCount, capacityOf}
 use Rattle.marks.specs.Peak.{peakPart, peakRule}
 use Rattle.examples.specs.Examples.{Examples}
+use Rattle.examples.proofs.Months.{three-months, past-hour}
 use Rattle.examples.proofs.table.Statement.{statement}
 use Rattle.examples.proofs.table.Tie as tie
 
@@ -25,6 +26,8 @@ examples = record {
   j = refl;
   k = (refl, refl);
   l = (refl, refl);
+  m = three-months;
+  n = past-hour;
 }
 
 pub table-spec : {M : Type 1} → statement M
