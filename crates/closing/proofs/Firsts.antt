@@ -7,7 +7,6 @@ use mathlib.Core.List.{List}
 use native.Mathlib.Nat.{mul-le-mul}
 use native.Mathlib.Omega.{arith}
 use borrow.Author.Tests.{eq-eqb, ne-eqb, le-leb, lt-leb}
-use lib.Dec.{eqb, leb}
 use lib.ListN.{length}
 use Rattle.numbers.specs.Lists.{tab, sum}
 use Rattle.numbers.proofs.Laws.{by-cases, length-tab}

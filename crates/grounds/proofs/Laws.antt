@@ -1,15 +1,15 @@
 -- How each way of finding hours hands them out. Assumes nothing.
 use Prim.Native.Nat.{ℕ, _+_, _-_, _*_, _≤_, _<_}
-use mathlib.Core.Path.{_≡_, refl, sym, _∙_}
+use mathlib.Core.Path.{_≡_, refl, _∙_}
 use mathlib.Core.Bool.{Bool, true, false, _&&_}
 use mathlib.Core.List.{List}
 use native.Mathlib.Nat.{add-sub-cancel-left, sub-zero, mul-comm, mul-le-mul}
 use native.Mathlib.Omega.{arith}
 use borrow.Author.Tests.{le-leb, eq-eqb}
-use lib.Dec.{leb, ltb, eqb}
-use lib.ListN.{length, take, drop, replicate, getD, length-drop, length-replicate, getD-replicate}
+use lib.Dec.{ltb}
+use lib.ListN.{length, take, drop, replicate, length-drop, length-replicate, getD-replicate}
 use lib.Seq.{getD-take, length-take-le}
-use Rattle.numbers.specs.Lists.{tab, sumTo, sum, at, zeros, padded, Filled}
+use Rattle.numbers.specs.Lists.{tab, sumTo, sum, at, zeros, Filled}
 use Rattle.numbers.proofs.Laws.{length-tab, sum-same, sum-at, sum-most, cond-most, none-above-at, filled-padded}
 use Rattle.sharing.specs.Shares.{ones, one, within, every, shares, sharesOver, pastAt, stretched, rowPart, rowFits, chosenAt, monthFits, weightsFit, Shared}
 use Rattle.sharing.proofs.Laws.{spread-same}

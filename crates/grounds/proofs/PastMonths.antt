@@ -1,11 +1,11 @@
 -- Where the past of a record stands. Assumes nothing.
 use Prim.Native.Nat.{ℕ, _-_, _≤_, _<_}
-use mathlib.Core.Path.{_≡_, refl, sym, _∙_}
+use mathlib.Core.Path.{_≡_}
 use mathlib.Core.Logic.{_≢_}
 use mathlib.Core.Bool.{true, false}
 use native.Mathlib.Omega.{arith}
 use borrow.Author.Tests.{eq-eqb, ne-eqb, leb-true, le-leb}
-use lib.Dec.{eqb, leb, ltb, lit≤}
+use lib.Dec.{leb, ltb, lit≤}
 use Rattle.numbers.specs.Lists.{at}
 use Rattle.numbers.proofs.Laws.{by-cases, both}
 use Rattle.calendar.specs.declared.Date.{Date}

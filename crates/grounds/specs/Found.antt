@@ -8,7 +8,7 @@ use Rattle.calendar.specs.declared.Date.{Date}
 use Rattle.calendar.specs.Calendar.{openHours}
 use Rattle.sharing.specs.Shares.{rowPart}
 use Rattle.record.specs.declared.Record.{Record}
-use Rattle.rows.specs.Store.{asRow, storeFits}
+use Rattle.rows.specs.Store.{asRow}
 use Rattle.rules.specs.Rules.{PastHours, none, some, Outcome}
 use Rattle.model.specs.Model.{state, pastIn}
 use Rattle.grounds.specs.declared.Found.{Found}

@@ -1,7 +1,6 @@
 -- `grounds::as_past` meets its contract. Assumes nothing.
 use borrow.Author.Needs.{needs}
 use denote.Ref.{now}
-use native.Mathlib.Omega.{arith}
 use Rattle.grounds.proofs.Laws.{past-hands}
 use Rattle.grounds.proofs.hours.as_past.Statement.{statement}
 use Rattle.grounds.proofs.hours.as_past.Tie as tie
