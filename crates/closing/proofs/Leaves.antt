@@ -25,7 +25,7 @@ use Rattle.model.specs.Model.{State, state, inputs, closedWith, accept, refusal
 use Rattle.grounds.specs.declared.Found.{Found}
 use Rattle.grounds.specs.Found.{Gives}
 use Rattle.closing.specs.After.{pointAfter, storeAfter}
-use Rattle.closing.proofs.Laws.{capacity-row, capacity-within}
+use Rattle.choice.proofs.Laws.{capacity-row, capacity-within}
 
 -- 40 to 45, and before them 1 to 3; the words are judged where the store has its length
 pub number-is : (r : Record) (store marks buffer : List ℕ)

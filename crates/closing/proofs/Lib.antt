@@ -1,3 +1,1 @@
-pub mod Laws
-pub mod Firsts
 pub mod Leaves

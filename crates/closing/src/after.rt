@@ -28,7 +28,8 @@ fn past_after(new: bool, p: Past, d: Date) -> Past
     let mut years = p.years;
     let year = pick(new, d.year, years[row]);
     years[row] = year;
-    let latest = pick_wide(new, month_number(d), p.latest);
+    let before = p.latest;
+    let latest = pick_wide(new, month_number(d), before);
     Past {
         years: years,
         latest: latest,

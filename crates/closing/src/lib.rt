@@ -5,12 +5,11 @@ ghost use Rattle.rules.specs.Calls.Call.{closing};
 ghost use Rattle.model.specs.Model.{state, refusal, Does};
 
 mod after;
-mod first;
 
 use after::point_after;
 use after::store_after;
 use calendar::open_hours;
-use first::first_ground;
+use choice::first_ground;
 use grounds::Found;
 use marks::Survey;
 use marks::capacity;

@@ -157,15 +157,15 @@ unfoldable pub hoursAt : Opening → ℕ → Book → PastHours
 hoursAt o n [] = none
 hoursAt o n (e ∷ es) = cond (isMetered e && eqb (monthNumber (monthOf o es)) n) (some (e .out .hours)) (hoursAt o n es)
 
--- of the latest closing on 1 or 2
-unfoldable pub latestHours : Book → PastHours
-latestHours [] = none
-latestHours (e ∷ es) = cond (isMetered e) (some (e .out .hours)) (latestHours es)
-
 -- the first, or else the second
 unfoldable pub orElse : PastHours → PastHours → PastHours
 orElse none q = q
 orElse (some hs) q = some hs
+
+-- of the latest closing on 1 or 2
+unfoldable pub latestHours : Book → PastHours
+latestHours [] = none
+latestHours (e ∷ es) = cond (isMetered e) (some (e .out .hours)) (latestHours es)
 
 -- past: the book's hours of the same month last year, if closed on ground 1 or 2; else of the latest closing on 1 or 2; else none
 unfoldable pub pastOf : Opening → Book → PastHours

@@ -5,6 +5,7 @@ use mathlib.Core.Path.{refl, sym, ap, _∙_}
 use lib.ListN.{length}
 use native.Mathlib.Omega.{arith}
 use Rattle.calendar.proofs.Laws.{limits}
+use Rattle.marks.specs.declared.Survey.{Survey}
 use Rattle.marks.specs.Marks.{surveyOf, surveyWith}
 use Rattle.rows.proofs.Laws.{length-row}
 use Rattle.rules.specs.Calls.{bufferOf}
@@ -12,7 +13,7 @@ use Rattle.rules.specs.Calls.Call.{closing}
 use Rattle.rules.proofs.Laws.{rules-right}
 use Rattle.model.specs.Model.{state, inputs}
 use Rattle.model.proofs.Laws.{refused}
-use Rattle.closing.proofs.Laws.{known}
+use Rattle.choice.proofs.Laws.{known}
 use Rattle.closing.proofs.Leaves.{is-accepted, closed-does}
 use Rattle.closing.proofs.close.Statement.{statement}
 use Rattle.closing.proofs.close.Tie as tie
@@ -37,4 +38,4 @@ close-spec =
     (λ c κs. search needs)
     (λ c. search needs)
     (λ c. let a = c .before .before .before .before .before .before .before .before .before .before .before .before .before .before .before .before .before .before .before .before .before .before .before .before .before .before .args in let k = known _ _ _ _ (is-accepted (state (a .r) (now (a .store))) (closing (now (a .marks)) (now (a .hours))) (c .before .before .before .before .before .before .before .before .before .before .before .before .before .before .before .before .before .before .before .closing-refusal .ensures) (c .before .before .before .before .before .before .before .before .before .before .before .before .before .before .before .before .before .before .if1 .left)) in ap length (c .before .before .before .before .before .before .before .before .before .before .before .before .before .before .before .first-ground .ensures .hours) ∙ length-row _ (omega (arith, rules-right _ (k .sane) .long, k .lent .few)) ∙ sym (k .lent .room))
-    (λ c. let a = c .before .before .before .before .before .before .before .before .before .before .before .before .before .before .before .before .before .before .before .before .before .before .before .before .before .before .args in let s = state (a .r) (now (a .store)) in let k = known _ _ _ _ (is-accepted (state (a .r) (now (a .store))) (closing (now (a .marks)) (now (a .hours))) (c .before .before .before .before .before .before .before .before .before .before .before .before .before .before .before .before .before .before .before .closing-refusal .ensures) (c .before .before .before .before .before .before .before .before .before .before .before .before .before .before .before .before .before .before .if1 .left)) in closed-does s (now (a .marks)) (now (a .hours)) (c .before .before .before .before .before .before .before .before .before .before .before .before .before .before .before .before .before .before .before .closing-refusal .ensures) (c .before .before .before .before .before .before .before .before .before .before .before .before .before .before .before .before .before .before .if1 .left) (rules-right _ (k .sane)) (k .lent .few) (c .before .before .before .before .before .before .before .before .before .before .before .before .before .before .before .first-ground .ensures) (c .before .capacity-sum .ensures) (rw (c .before .before .before .before .before .before .before .before .before .before .before .before .before .before .before .before .before .before .before .before .before .before .survey-marks .ensures)) (c .figures-of .ensures) refl (c .before .before .before .before .before .before .before .before .before .point-after .ensures) (c .before .before .before .before .before .store-after .ensures)))
+    (λ c. let a = c .before .before .before .before .before .before .before .before .before .before .before .before .before .before .before .before .before .before .before .before .before .before .before .before .before .before .args in let s = state (a .r) (now (a .store)) in let k = known _ _ _ _ (is-accepted (state (a .r) (now (a .store))) (closing (now (a .marks)) (now (a .hours))) (c .before .before .before .before .before .before .before .before .before .before .before .before .before .before .before .before .before .before .before .closing-refusal .ensures) (c .before .before .before .before .before .before .before .before .before .before .before .before .before .before .before .before .before .before .if1 .left)) in closed-does s (now (a .marks)) (now (a .hours)) (c .before .before .before .before .before .before .before .before .before .before .before .before .before .before .before .before .before .before .before .closing-refusal .ensures) (c .before .before .before .before .before .before .before .before .before .before .before .before .before .before .before .before .before .before .if1 .left) (rules-right _ (k .sane)) (k .lent .few) (c .before .before .before .before .before .before .before .before .before .before .before .before .before .before .before .first-ground .ensures) (c .before .capacity-sum .ensures) (ap (λ (x : Survey). x .days) (c .before .before .before .before .before .before .before .before .before .before .before .before .before .before .before .before .before .before .before .before .before .before .survey-marks .ensures)) (c .figures-of .ensures) refl (c .before .before .before .before .before .before .before .before .before .point-after .ensures) (c .before .before .before .before .before .store-after .ensures)))

@@ -1,8 +1,8 @@
--- `closing::point_power` meets its contract. Assumes nothing.
+-- `choice::point_power` meets its contract. Assumes nothing.
 use borrow.Author.Needs.{needs}
-use Rattle.closing.proofs.Firsts.{cable-power-is, agreed-power-is}
-use Rattle.closing.proofs.first.point_power.Statement.{statement}
-use Rattle.closing.proofs.first.point_power.Tie as tie
+use Rattle.choice.proofs.Firsts.{cable-power-is, agreed-power-is}
+use Rattle.choice.proofs.point_power.Statement.{statement}
+use Rattle.choice.proofs.point_power.Tie as tie
 
 pub point-power-spec : {M : Type 1} → statement M
 point-power-spec =

@@ -1,12 +1,12 @@
--- `closing::first_ground` meets its contract. Assumes nothing.
+-- `choice::first_ground` meets its contract. Assumes nothing.
 use borrow.Author.Needs.{needs}
 use denote.Ref.{now}
 use native.Mathlib.Omega.{arith}
 use Rattle.model.specs.Model.{state, inputs}
-use Rattle.closing.proofs.Firsts.{one-gives, two-gives, control-gives, is-hourly, is-whole, is-missing}
-use Rattle.closing.proofs.Laws.{known, marks-some, marks-few}
-use Rattle.closing.proofs.first.first_ground.Statement.{statement}
-use Rattle.closing.proofs.first.first_ground.Tie as tie
+use Rattle.choice.proofs.Firsts.{one-gives, two-gives, control-gives, is-hourly, is-whole, is-missing}
+use Rattle.choice.proofs.Laws.{known, marks-some, marks-few}
+use Rattle.choice.proofs.first_ground.Statement.{statement}
+use Rattle.choice.proofs.first_ground.Tie as tie
 
 pub first-ground-spec : {M : Type 1} → statement M
 unfolding inputs

@@ -1,8 +1,8 @@
--- `closing::counted` meets its contract. Assumes nothing.
+-- `choice::counted` meets its contract. Assumes nothing.
 use borrow.Author.Needs.{needs}
 use Rattle.rules.specs.Rules.{countedOf}
-use Rattle.closing.proofs.first.counted.Statement.{statement}
-use Rattle.closing.proofs.first.counted.Tie as tie
+use Rattle.choice.proofs.counted.Statement.{statement}
+use Rattle.choice.proofs.counted.Tie as tie
 
 pub counted-spec : {M : Type 1} → statement M
 unfolding countedOf

@@ -28,7 +28,7 @@ use Rattle.rules.specs.Rules.{Measured, missing, hourly, whole, PastHours, none
 use Rattle.model.specs.Model.{state, measuredIn, statedIn, inputs}
 use Rattle.grounds.specs.declared.Found.{Found}
 use Rattle.grounds.specs.declared.past.PastMonth.{PastMonth}
-use Rattle.closing.proofs.Laws.{Known, peaks-are, capacity-row, capacity-within}
+use Rattle.choice.proofs.Laws.{Known, peaks-are, capacity-row, capacity-within}
 use Rattle.grounds.specs.Found.{Hands, Gives, hoursFrom, PastOf}
 
 -- N, as the record holds the two neighbour readings

@@ -1,14 +1,14 @@
--- `closing::on_control_volume` meets its contract. Assumes nothing.
+-- `choice::on_control_volume` meets its contract. Assumes nothing.
 use borrow.Author.Needs.{needs}
 use denote.Ref.{now}
 use native.Mathlib.Omega.{arith}
 use borrow.Author.Tests.{not-true, not-false}
 use mathlib.Core.Path.{sym, _∙_}
 use Rattle.model.specs.Model.{state, inputs}
-use Rattle.closing.proofs.Firsts.{five-gives, four-gives, six-gives, later-gives, past-some, past-none, six-test, six-sum, six-room}
-use Rattle.closing.proofs.Laws.{known, marks-some, marks-few, peaks-few, days-few}
-use Rattle.closing.proofs.first.on_control_volume.Statement.{statement}
-use Rattle.closing.proofs.first.on_control_volume.Tie as tie
+use Rattle.choice.proofs.Firsts.{five-gives, four-gives, six-gives, later-gives, past-some, past-none, six-test, six-sum, six-room}
+use Rattle.choice.proofs.Laws.{known, marks-some, marks-few, peaks-few, days-few}
+use Rattle.choice.proofs.on_control_volume.Statement.{statement}
+use Rattle.choice.proofs.on_control_volume.Tie as tie
 
 pub on-control-volume-spec : {M : Type 1} → statement M
 unfolding inputs

@@ -1,10 +1,10 @@
--- `closing::six_fits` meets its contract. Assumes nothing.
+-- `choice::six_fits` meets its contract. Assumes nothing.
 use borrow.Author.Needs.{needs}
 use native.Mathlib.Omega.{arith}
 use lib.Dec.{lit≤}
-use Rattle.closing.proofs.Firsts.{six-small}
-use Rattle.closing.proofs.first.six_fits.Statement.{statement}
-use Rattle.closing.proofs.first.six_fits.Tie as tie
+use Rattle.choice.proofs.Firsts.{six-small}
+use Rattle.choice.proofs.six_fits.Statement.{statement}
+use Rattle.choice.proofs.six_fits.Tie as tie
 
 pub six-fits-spec : {M : Type 1} → statement M
 six-fits-spec =

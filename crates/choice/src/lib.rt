@@ -1,4 +1,5 @@
-// The first ground that fits (document 01, 'Closing'), in the order of its table: 1, 2, 3, 4, 6, 5, 7, 8, 9.
+// Which ground a month is closed on (document 01, 'Closing'): the first that fits, in the order of its table: 1, 2, 3, 4, 6,
+// 5, 7, 8, 9.
 ghost use mathlib.Core.Path.{_≡_};
 ghost use mathlib.Core.Bool.{true};
 ghost use Prim.Native.Nat.{_-_, _*_, _≤_, min};

@@ -1,9 +1,9 @@
--- `closing::neighbour_volume` meets its contract. Assumes nothing.
+-- `choice::neighbour_volume` meets its contract. Assumes nothing.
 use borrow.Author.Needs.{needs}
 use mathlib.Core.Path.{_∙_}
-use Rattle.closing.proofs.Firsts.{neighbour-is}
-use Rattle.closing.proofs.first.neighbour_volume.Statement.{statement}
-use Rattle.closing.proofs.first.neighbour_volume.Tie as tie
+use Rattle.choice.proofs.Firsts.{neighbour-is}
+use Rattle.choice.proofs.neighbour_volume.Statement.{statement}
+use Rattle.choice.proofs.neighbour_volume.Tie as tie
 
 pub neighbour-volume-spec : {M : Type 1} → statement M
 neighbour-volume-spec =

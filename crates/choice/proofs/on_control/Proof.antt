@@ -1,11 +1,11 @@
--- `closing::on_control` meets its contract. Assumes nothing.
+-- `choice::on_control` meets its contract. Assumes nothing.
 use borrow.Author.Needs.{needs}
 use denote.Ref.{now}
 use Rattle.model.specs.Model.{state, inputs}
-use Rattle.closing.proofs.Firsts.{three-gives, volume-gives, past-gives, is-hourly, is-whole, is-missing}
-use Rattle.closing.proofs.Laws.{known}
-use Rattle.closing.proofs.first.on_control.Statement.{statement}
-use Rattle.closing.proofs.first.on_control.Tie as tie
+use Rattle.choice.proofs.Firsts.{three-gives, volume-gives, past-gives, is-hourly, is-whole, is-missing}
+use Rattle.choice.proofs.Laws.{known}
+use Rattle.choice.proofs.on_control.Statement.{statement}
+use Rattle.choice.proofs.on_control.Tie as tie
 
 pub on-control-spec : {M : Type 1} → statement M
 unfolding inputs

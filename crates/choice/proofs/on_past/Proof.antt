@@ -1,11 +1,11 @@
--- `closing::on_past` meets its contract. Assumes nothing.
+-- `choice::on_past` meets its contract. Assumes nothing.
 use borrow.Author.Needs.{needs}
 use denote.Ref.{now}
 use Rattle.model.specs.Model.{state, inputs}
-use Rattle.closing.proofs.Firsts.{seven-gives, late-gives, none-gives, past-some, past-none}
-use Rattle.closing.proofs.Laws.{known}
-use Rattle.closing.proofs.first.on_past.Statement.{statement}
-use Rattle.closing.proofs.first.on_past.Tie as tie
+use Rattle.choice.proofs.Firsts.{seven-gives, late-gives, none-gives, past-some, past-none}
+use Rattle.choice.proofs.Laws.{known}
+use Rattle.choice.proofs.on_past.Statement.{statement}
+use Rattle.choice.proofs.on_past.Tie as tie
 
 pub on-past-spec : {M : Type 1} → statement M
 unfolding inputs

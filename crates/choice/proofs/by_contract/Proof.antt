@@ -1,11 +1,11 @@
--- `closing::by_contract` meets its contract. Assumes nothing.
+-- `choice::by_contract` meets its contract. Assumes nothing.
 use borrow.Author.Needs.{needs}
 use Rattle.model.specs.Model.{state, inputs}
 use denote.Ref.{now}
-use Rattle.closing.proofs.Firsts.{nine-gives, eight-gives}
-use Rattle.closing.proofs.Laws.{known}
-use Rattle.closing.proofs.first.by_contract.Statement.{statement}
-use Rattle.closing.proofs.first.by_contract.Tie as tie
+use Rattle.choice.proofs.Firsts.{nine-gives, eight-gives}
+use Rattle.choice.proofs.Laws.{known}
+use Rattle.choice.proofs.by_contract.Statement.{statement}
+use Rattle.choice.proofs.by_contract.Tie as tie
 
 pub by-contract-spec : {M : Type 1} → statement M
 unfolding inputs
