@@ -6,7 +6,7 @@ use mathlib.Core.List.{List, [], _∷_, _++_}
 use lib.ListN.{set, replicate}
 use Rattle.numbers.specs.Lists.{at, zeros, padded, noneAbove}
 use Rattle.calendar.specs.declared.Date.{Date}
-use Rattle.calendar.specs.Calendar.{leapYear, isMonth, monthDays, monthHours, openHours, monthNumber, dateOf}
+use Rattle.calendar.specs.Calendar.{leapYear, isMonth, monthDays, monthHours, openHours, monthNumber, dateOf, nextMonth}
 use Rattle.sharing.specs.Shares.{portion, taken, spread, sharesOver}
 use Rattle.power.specs.declared.Cable.{Cable}
 use Rattle.power.specs.Power.{cableFits, agreedFits, listFits, sharedPower, powerOn}
@@ -15,13 +15,13 @@ use Rattle.contract.specs.declared.Contract.{Contract}
 use Rattle.contract.specs.Contract.{noCable, kept}
 use Rattle.record.specs.declared.Record.{Record}
 use Rattle.record.specs.declared.Service.{Service}
-use Rattle.record.specs.Record.{givenAs, zeroRecord, freshRecord, freshService, withDate, withService, withReadings, withPast, withServing, withDenials, withBilling, withControl, withFirst, withSecond}
+use Rattle.record.specs.Record.{givenAs, noReadings, zeroRecord, freshRecord, freshService, withDate, withService, withReadings, withPast, withServing, withDenials, withBilling, withControl, withFirst, withSecond}
 use Rattle.validity.specs.Valid.{volumeLimit, valid}
 use Rattle.rows.specs.Store.{putRow, storeFits}
 use Rattle.rules.specs.Calls.{Opening, Call, billingHours, controlHours, billingVolume, controlVolume, neighbour, failure, admission, denial, permission, closing}
-use Rattle.rules.specs.Rules.{none, some}
+use Rattle.rules.specs.Rules.{none, some, becomesPast}
 use Rattle.model.specs.Refusals.{refuse, anyone, ownRefusal, openRefusal}
-use Rattle.model.specs.Model.{State, state, isRepeat, afterFailure, pastIn, accept}
+use Rattle.model.specs.Model.{State, state, isRepeat, afterFailure, pastIn, closedWith, accept}
 
 unfoldable judging : Unit {0}
 unfolding refuse ownRefusal openRefusal valid volumeLimit noneAbove storeFits isMonth monthDays monthHours openHours leapYear monthNumber dateOf cableFits agreedFits listFits high crowded unmatched accept pastIn
@@ -226,3 +226,31 @@ pasts :
     × (pastIn (filled (on 2025 2) (set (zeros 12) 0 2025) 24301) ≡ some (replicate 744 1))
 unfolding judging
 pasts = (refl, refl, refl, refl, refl)
+
+-- A CLOSING of December 2024 with a volume of 7, all in its first hour: on ground 1 the month becomes the past and the run is 0; on ground 7 neither, and the run grows. The total grows, the readings and row 12 clear, January 2025 opens
+abbrev december : ℕ → List ℕ → ℕ → Record
+december run years latest =
+    withPast (withService (withDate (point 1 2) (on 2024 12)) (record { run = run; serving = 1; denials = 1; fault = 0 })) (record { years = years; latest = latest })
+
+abbrev ended : ℕ → State
+ended g =
+    closedWith (record { ground = g; hours = 7 ∷ []; exact = λ h. record { top = 7; bottom = 1 }; volume = 7 })
+    (state (withReadings (december 5 (zeros 12) 0) (withBilling noReadings (givenAs 0))) (set empty 8928 9))
+
+abbrev begun : ℕ → List ℕ → ℕ → Record
+begun run years latest =
+    record {
+      opened = 1;
+      contract = contract 1 2;
+      date = on 2025 1;
+      service = record { run = run; serving = 1; denials = 1; fault = 0 };
+      past = record { years = years; latest = latest };
+      readings = noReadings;
+      total = record { 0 = 7 };
+    }
+
+closings :
+    (ended 1 .point ≡ begun 0 (set (zeros 12) 11 2024) 24300) × (ended 7 .point ≡ begun 6 (zeros 12) 0)
+    × (at (ended 1 .store) 8184 ≡ 7) × (at (ended 7 .store) 8184 ≡ 0) × (at (ended 1 .store) 8928 ≡ 0) × (at (ended 7 .store) 8928 ≡ 0)
+unfolding judging padded putRow closedWith becomesPast nextMonth
+closings = (refl, refl, refl, refl, refl, refl)
