@@ -116,7 +116,8 @@ typedef struct {
     sallowbingo_kwh total;
 } sallowbingo_record;
 
-/* ground, month volume, capacity, C and d of a closing, else 0 */
+/* Of an accepted closing, else 0: ground, month volume, capacity, C (the sum of
+ * the volumes in the capacity hours) and d (the working days). */
 typedef struct {
     uint32_t ground;
     sallowbingo_kwh volume;
@@ -165,12 +166,18 @@ sallowbingo_answer sallowbingo_admit(sallowbingo_record record, const uint32_t *
 sallowbingo_answer sallowbingo_deny(sallowbingo_record record, uint32_t *store, size_t words);
 sallowbingo_answer sallowbingo_permit(sallowbingo_record record, const uint32_t *store, size_t words);
 
-/* Closes the open month: puts its hours into the hour buffer, which is
- * SALLOWBINGO_ROW words and gets 0 from the month's end on, its ground, volume,
- * capacity, C and d into the answer's figures, and opens the next month. There
- * is one mark an hour: 0 ordinary, 1 planned peak, 2 capacity hour, 3 both.
- * Marks and hours overlap neither the store nor each other. Refusals: 1 to 3,
- * and
+/* Closes the open month. marks has count bytes, one an hour: 0 ordinary,
+ * 1 planned peak, 2 capacity hour, 3 both. hours has room words; it gets the
+ * month's hours, and 0 from the month's end on. The answer's figures have the
+ * ground, the month volume, the capacity, C (sum) and d (days). The grounds:
+ *   1 billing hours                        2 billing volume, peak rule
+ *   3 control hours                        4, 6 control volume, by the past
+ *   5 control volume, peak rule            7 the past's hours
+ *   8 power times hours                    9 cable formula
+ * The next month is then open; after December 2999 it is January 3000, and
+ * every later call but an opening is refused with 3. A refused closing leaves
+ * store and hours as they were. Marks and hours overlap neither the store nor
+ * each other. Refusals: 1 to 3, and
  *   40  not as many marks as the month has hours
  *   41  a mark above 3
  *   42  over 16 peak hours in a day

@@ -232,7 +232,7 @@ static void refusals_in_pairs(void) {
         for (size_t day = 0; day < 28; day += 27) CHECK(first_of(k, day));
 }
 
-/* Every length but the right one of store, marks and buffer, and nothing lent at all. */
+/* Some wrong lengths of store, marks and buffer, and nothing lent at all. */
 static void other_lengths(void) {
     static const size_t stores[] = {0, 1, 744, 10415, 10417, ROOM}, buffers[] = {0, 1, 672, 743, 745, 2 * HOURS};
     static const size_t counts[] = {0, 1, 24, 671, 673, 696, 720, 744, 2 * HOURS};

@@ -46,19 +46,19 @@ fn counted(s: Service) -> u32
 }
 
 // N: the first neighbour reading if given, else the second, else 0.
-fn neighbour_volume(g: Readings) -> u64
-    ensures { λ v. ⌜ v ≡ neighbourOf (statedIn (g .first)) (statedIn (g .second)) ⌝ }
+fn neighbour_volume(g: Readings) -> Kwh
+    ensures { λ v. ⌜ v .0 ≡ neighbourOf (statedIn (g .first)) (statedIn (g .second)) ⌝ }
 {
     let second = pick_wide(g.second.given == 1, g.second.volume.0, 0);
-    pick_wide(g.first.given == 1, g.first.volume.0, second)
+    Kwh(pick_wide(g.first.given == 1, g.first.volume.0, second))
 }
 
 // A reading less N, and 0 where that is below 0.
-fn less(volume: Kwh, neighbour: u64) -> Kwh
-    ensures { λ v. ⌜ v .0 ≡ volume .0 - neighbour ⌝ }
+fn less(volume: Kwh, neighbour: Kwh) -> Kwh
+    ensures { λ v. ⌜ v .0 ≡ volume .0 - neighbour .0 ⌝ }
 {
-    if neighbour < volume.0 {
-        return Kwh(volume.0 - neighbour);
+    if neighbour.0 < volume.0 {
+        return Kwh(volume.0 - neighbour.0);
     }
     Kwh(0)
 }
@@ -140,6 +140,7 @@ fn on_control_volume(
     if counted(r.service) <= 2 {
         return ground_four(v, store, past, t, hours);
     }
+    // Ground 4's hours go into the buffer first, since C' is taken over them; where the test fails, ground 5 replaces them.
     let six = ground_six(v, store, past, t, hours);
     if six_fits(v, p, survey, capacity_sum(marks, hours)) {
         return six;

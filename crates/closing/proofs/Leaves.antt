@@ -9,7 +9,8 @@ use lib.Dec.{eqb, lit≤}
 use lib.ListN.{length, set}
 use Rattle.numbers.specs.Lists.{at, padded}
 use Rattle.numbers.proofs.Laws.{by-cases}
-use Rattle.calendar.specs.Calendar.{openHours}
+use Rattle.calendar.specs.declared.Date.{Date}
+use Rattle.calendar.specs.Calendar.{isMonth, openHours}
 use Rattle.units.specs.declared.Kwh.{Kwh}
 use Rattle.marks.specs.Marks.{surveyWith, surveyOf, capacitySum, capacityIn}
 use Rattle.marks.proofs.Laws.{capacity-uncut}
@@ -21,10 +22,10 @@ use Rattle.rules.specs.Calls.{Call, closing}
 use Rattle.rules.specs.Rules.{Outcome, daysIn, rules, becomesPast, figures}
 use Rattle.rules.specs.Right.{Right}
 use Rattle.model.specs.Refusals.{refuse, anyone, ownRefusal}
-use Rattle.model.specs.Model.{State, state, inputs, closedWith, accept, refusal, accepted, leaves, figuresOf, hoursOut, answer, bufferAfter, Does}
+use Rattle.model.specs.Model.{State, state, inputs, pointAfter, storeAfter, closedWith, accept, refusal, accepted, leaves, figuresOf, hoursOut, answer, bufferAfter, Does}
+use Rattle.model.proofs.Closes.{slot-row}
 use Rattle.grounds.specs.declared.Found.{Found}
 use Rattle.grounds.specs.Found.{Gives}
-use Rattle.closing.specs.After.{pointAfter, storeAfter}
 use Rattle.choice.proofs.Laws.{capacity-row, capacity-within}
 
 -- 40 to 45, and before them 1 to 3; the words are judged where the store has its length
@@ -66,17 +67,17 @@ kept-length true row hours store words few long =
 kept-length false row hours store words few long = words
 
 -- the store that the code leaves
-pub store-is : (new : Bool) (row : ℕ) (hours store : List ℕ) {a b d : List ℕ} → length store ≡ 10416 → row ≤ 11 → length hours ≡ 744
-    → a ≡ cond new (withHours row hours store) store → b ≡ writtenIn 12 [] a → d ≡ writtenIn 13 [] b → d ≡ storeAfter new row hours store
-store-is new row hours store {a} {b} words few long e f g =
-    let la : length a ≡ 10416 = rw e (kept-length new row hours store words few long) in
+pub store-is : (new : Bool) (m : Date) (hours store : List ℕ) {a b d : List ℕ} → length store ≡ 10416 → isMonth m ≡ true → length hours ≡ 744
+    → a ≡ cond new (withHours (m .month - 1) hours store) store → b ≡ writtenIn 12 [] a → d ≡ writtenIn 13 [] b → d ≡ storeAfter new hours m store
+store-is new m hours store {a} {b} words month long e f g =
+    let la : length a ≡ 10416 = rw e (kept-length new (m .month - 1) hours store words (slot-row m month) long) in
     let fb = f ∙ written-in 12 [] a (lit≤ tt) (lit≤ tt) la in
     let lb : length b ≡ 10416 = rw fb (length-put 12 (asRow []) a la (lit≤ tt) (length-row [] (lit≤ tt))) in
     g ∙ written-in 13 [] b (lit≤ tt) (lit≤ tt) lb ∙ rw (fb, e)
 
 -- what is left in parts is what the model leaves
 pub store-left : (u : Outcome) (s : State) → length (u .hours) ≤ 744
-    → storeAfter (becomesPast u) (s .point .date .month - 1) (asRow (u .hours)) (s .store) ≡ closedWith u s .store
+    → storeAfter (becomesPast u) (asRow (u .hours)) (s .point .date) (s .store) ≡ closedWith u s .store
 unfolding closedWith
 store-left u s l = rw (row-again (u .hours) l)
 
@@ -101,8 +102,8 @@ pub closed-does : (s : State) (marks buffer : List ℕ) {number t : ℕ} → num
     → {f : Found} {hours store : List ℕ} {c : Kwh} {d : ℕ} {g : Figures} {new : Bool} {r : Record} → Gives (rules (inputs s marks)) f hours
     → c .0 ≡ capacitySum marks hours → d ≡ daysIn marks
     → g ≡ record { ground = f .ground; volume = f .volume; capacity = record { 0 = capacityIn (c .0) d }; sum = c; days = d }
-    → new ≡ (eqb (f .ground) 1 || eqb (f .ground) 2) → r ≡ pointAfter (s .point) new (f .volume .0)
-    → store ≡ storeAfter new (s .point .date .month - 1) hours (s .store)
+    → new ≡ (eqb (f .ground) 1 || eqb (f .ground) 2) → r ≡ pointAfter new (f .volume .0) (s .point)
+    → store ≡ storeAfter new hours (s .point .date) (s .store)
     → Does s (closing marks buffer) (record { refusal = 0; after = r; figures = g }) store hours
 unfolding answer leaves bufferAfter figuresOf hoursOut accept closedWith becomesPast
 closed-does s marks buffer e z right few {new = n} gives total days figs past after left =

@@ -5,8 +5,7 @@ ghost use lib.ListN.{length};
 ghost use Prim.Native.Nat.{_≤_};
 ghost use Rattle.calendar.specs.Calendar.{isMonth};
 ghost use Rattle.rows.specs.Store.{withHours};
-ghost use Rattle.model.specs.Model.{pastAfter};
-ghost use Rattle.closing.specs.After.{pointAfter, storeAfter};
+ghost use Rattle.model.specs.Model.{pastAfter, pointAfter, storeAfter};
 use calendar::Date;
 use calendar::month_number;
 use calendar::next_month;
@@ -40,7 +39,7 @@ fn past_after(new: bool, p: Past, d: Date) -> Past
 // past and else grows by 1.
 pub fn point_after(r: Record, new: bool, volume: Kwh) -> Record
     requires { ⌜ (isMonth (r .date) ≡ true) × (r .service .run ≤ 12000) × (r .total .0 ≤ 30000000000000) × (volume .0 ≤ 2232000000) ⌝ }
-    ensures { λ t. ⌜ t ≡ pointAfter r new (volume .0) ⌝ }
+    ensures { λ t. ⌜ t ≡ pointAfter new (volume .0) r ⌝ }
 {
     let date = next_month(r.date);
     let run = pick(new, 0, r.service.run + 1);
@@ -67,10 +66,11 @@ fn keep_hours(store: &mut [u32], new: bool, row: usize, hours: &[u32])
 }
 
 // The same, and rows 12 and 13 clear.
-pub fn store_after(store: &mut [u32], new: bool, row: usize, hours: &[u32])
-    requires { ⌜ (length (now store) ≡ 10416) × (row ≤ 11) × (length (now hours) ≡ 744) ⌝ }
-    ensures { λ _. ⌜ now (store .exit) ≡ storeAfter new row (now (hours .entry)) (now (store .entry)) ⌝ }
+pub fn store_after(store: &mut [u32], new: bool, d: Date, hours: &[u32])
+    requires { ⌜ (length (now store) ≡ 10416) × (isMonth d ≡ true) × (length (now hours) ≡ 744) ⌝ }
+    ensures { λ _. ⌜ now (store .exit) ≡ storeAfter new (now (hours .entry)) d (now (store .entry)) ⌝ }
 {
+    let row = (d.month - 1) as usize;
     keep_hours(store, new, row, hours);
     clear_row(store, 12);
     clear_row(store, 13);

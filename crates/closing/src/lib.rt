@@ -24,7 +24,7 @@ use rows::store_fits;
 use rules::Figures;
 use units::Kwh;
 
-// The number of a closing: 1 to 3 and 40 to 45.
+// The number of a closing, 0 where it is accepted. The highest is asked first, so that each lower one goes before it.
 fn closing_refusal(r: Record, store: &[u32], marks: &[u8], survey: Survey, hours: &[u32]) -> u32
     requires { ⌜ survey ≡ surveyOf (now marks) ⌝ }
     ensures { λ n. ⌜ n ≡ refusal (state r (now (store .entry))) (closing (now (marks .entry)) (now (hours .entry))) ⌝ }
@@ -71,7 +71,7 @@ pub fn close(r: Record, store: &mut [u32], marks: &[u8], hours: &mut [u32]) -> A
     let new = (found.ground == 1) | (found.ground == 2);
     let volume = found.volume;
     let after = point_after(r, new, volume);
-    store_after(store, new, (r.date.month - 1) as usize, hours);
+    store_after(store, new, r.date, hours);
     let sum = capacity_sum(marks, hours);
     let figures = figures_of(found, sum, survey.days);
     Answer {

@@ -33,7 +33,7 @@ pub fn as_read(ground: u32, store: &[u32], row: usize, t: usize, hours: &mut [u3
     }
 }
 
-// The first t hours of the past into the front of a buffer.
+// Hours 0 to t - 1 of the past, its hour h - 168 where it lacks hour h, into the front of a buffer.
 fn copy_past(past: &[u32], t: usize, hours: &mut [u32])
     requires { ⌜ t ≤ length (now hours) ⌝ }
     ensures { λ _. ⌜ Filled (pastAt (now (past .entry))) (now (hours .entry)) (now (hours .exit)) t ⌝ }
@@ -45,7 +45,8 @@ fn copy_past(past: &[u32], t: usize, hours: &mut [u32])
     }
 }
 
-// The hours of the past, whose first T' hours stand in a row, for a month of t hours; the volume is their sum.
+// The hours of the past, whose T' hours (`past`) stand at the front of a row, for a month of t hours; the volume is their
+// sum.
 pub fn as_past(
     ground: u32,
     store: &[u32],
@@ -70,7 +71,7 @@ pub fn as_past(
     }
 }
 
-// A volume shared by the past, whose first T' hours stand in a row, over a month of t hours.
+// A volume shared by the past, whose T' hours (`past`) stand at the front of a row, over a month of t hours.
 pub fn by_past(
     ground: u32,
     volume: Kwh,

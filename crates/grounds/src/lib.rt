@@ -32,7 +32,7 @@ pub struct Found {
     pub volume: Kwh,
 }
 
-// Ground 1: billing, interval; as read.
+// Ground 1: billing, interval. As read.
 pub fn ground_one(store: &[u32], t: usize, hours: &mut [u32]) -> Found
     requires { ⌜ Lent (now store) (now hours) t ⌝ }
     ensures { λ f. ⌜ Hands 1 (sum (rowPart (now (store .entry)) 12 t)) (rowPart (now (store .entry)) 12 t) f (now (hours .exit)) ⌝ }
@@ -40,7 +40,7 @@ pub fn ground_one(store: &[u32], t: usize, hours: &mut [u32]) -> Found
     as_read(1, store, 12, t, hours)
 }
 
-// Ground 2: billing, integral; the volume by the peak rule.
+// Ground 2: billing, integral. The volume by the peak rule.
 pub fn ground_two(volume: Kwh, power: Kw, marks: &[u8], hours: &mut [u32]) -> Found
     requires { ⌜ (volume .0 ≤ 744000000) × (1 ≤ length (now marks)) × (length (now marks) ≤ 744) × (length (now hours) ≡ 744) ⌝ }
     ensures { λ f. ⌜ Hands 2 (volume .0) (peakRule (volume .0) (power .0) (now (marks .entry))) f (now (hours .exit)) ⌝ }
@@ -48,7 +48,7 @@ pub fn ground_two(volume: Kwh, power: Kw, marks: &[u8], hours: &mut [u32]) -> Fo
     by_peaks(2, volume, power, marks, hours)
 }
 
-// Ground 3: control, interval; as read.
+// Ground 3: control, interval. As read.
 pub fn ground_three(store: &[u32], t: usize, hours: &mut [u32]) -> Found
     requires { ⌜ Lent (now store) (now hours) t ⌝ }
     ensures { λ f. ⌜ Hands 3 (sum (rowPart (now (store .entry)) 13 t)) (rowPart (now (store .entry)) 13 t) f (now (hours .exit)) ⌝ }
@@ -56,7 +56,7 @@ pub fn ground_three(store: &[u32], t: usize, hours: &mut [u32]) -> Found
     as_read(3, store, 13, t, hours)
 }
 
-// Ground 4: control, integral, after at most two missed months; the volume shared by the past.
+// Ground 4: control, integral; R at most 2; past. The volume shared by the past.
 pub fn ground_four(
     volume: Kwh,
     store: &[u32],
@@ -81,7 +81,7 @@ pub fn ground_four(
     )
 }
 
-// Ground 5: control, integral, otherwise; the volume by the peak rule.
+// Ground 5: control, integral, otherwise. The volume by the peak rule.
 pub fn ground_five(volume: Kwh, power: Kw, marks: &[u8], hours: &mut [u32]) -> Found
     requires { ⌜ (volume .0 ≤ 744000000) × (1 ≤ length (now marks)) × (length (now marks) ≤ 744) × (length (now hours) ≡ 744) ⌝ }
     ensures { λ f. ⌜ Hands 5 (volume .0) (peakRule (volume .0) (power .0) (now (marks .entry))) f (now (hours .exit)) ⌝ }
@@ -89,7 +89,7 @@ pub fn ground_five(volume: Kwh, power: Kw, marks: &[u8], hours: &mut [u32]) -> F
     by_peaks(5, volume, power, marks, hours)
 }
 
-// Ground 6: the same as ground 4 later on, where the peak rule would take less in the peak hours.
+// Ground 6: control, integral; R at least 3; past; n > 0 and A × d < n × C'. The volume shared by the past, as in ground 4.
 pub fn ground_six(volume: Kwh, store: &[u32], past: PastMonth, t: usize, hours: &mut [u32]) -> Found
     requires { ⌜ Lent (now store) (now hours) t × PastFits past ⌝ }
     requires { ⌜ (storeFits (now store) ≡ true) × (volume .0 ≤ 744000000) ⌝ }
@@ -108,7 +108,7 @@ pub fn ground_six(volume: Kwh, store: &[u32], past: PastMonth, t: usize, hours: 
     )
 }
 
-// Ground 7: no control reading, after at most two missed months; the hours of the past.
+// Ground 7: no control reading; R at most 2; past. The hours of the past.
 pub fn ground_seven(store: &[u32], past: PastMonth, t: usize, hours: &mut [u32]) -> Found
     requires { ⌜ Lent (now store) (now hours) t × PastFits past ⌝ }
     ensures { λ f. ⌜
@@ -119,7 +119,7 @@ pub fn ground_seven(store: &[u32], past: PastMonth, t: usize, hours: &mut [u32])
     as_past(7, store, past.row as usize, past.hours as usize, t, hours)
 }
 
-// Ground 8: basis 1 or 2; P × T evenly.
+// Ground 8: basis 1 or 2. P × T evenly.
 pub fn ground_eight(power: Kw, t: u32, hours: &mut [u32]) -> Found
     requires { ⌜ (power .0 ≤ 1000000) × (1 ≤ t) × (t ≤ 744) × (length (now hours) ≡ 744) ⌝ }
     ensures { λ f. ⌜ Hands 8 (t * power .0) (shares (t * power .0) (ones t)) f (now (hours .exit)) ⌝ }
@@ -127,7 +127,7 @@ pub fn ground_eight(power: Kw, t: u32, hours: &mut [u32]) -> Found
     evenly(8, energy(t, power), t as usize, hours)
 }
 
-// Ground 9: basis 3; the formula at T evenly.
+// Ground 9: basis 3. The formula at T evenly.
 pub fn ground_nine(cable: Cable, t: u32, hours: &mut [u32]) -> Found
     requires { ⌜ (cableFits cable ≡ true) × (1 ≤ t) × (t ≤ 744) × (length (now hours) ≡ 744) ⌝ }
     ensures { λ f. ⌜ Hands 9 (formula cable t) (shares (formula cable t) (ones t)) f (now (hours .exit)) ⌝ }

@@ -11,7 +11,7 @@ use Rattle.power.specs.Power.{sharedPower, powerOn}
 use Rattle.contract.specs.Contract.{noCable, kept, powerOf}
 use Rattle.rules.specs.Calls.{Opening, Call, billingHours, controlHours, billingVolume, controlVolume, neighbour, failure, admission, denial, permission, closing}
 use Rattle.rules.specs.Rules.{missing, hourly, whole, unstated, stated, none, some, countedOf, neighbourOf, asRead, byWeights, byPeaks, evenly, byContract, onPast, onControl, onBilling, rules, becomesPast}
-use Rattle.history.specs.Book.{Entry, Book, billing, control, neighbouring, failed, admitted, denied, permitted, closed, is, isFrom, isFaulty, monthOf, denialsOf, discards, billingOf, thisMonths, sourceOf, faultSince, isRepeat, isMetered, runOf, hoursAt, latestHours, orElse, pastOf, volumes, inputsOf, nothing, workOut, feed}
+use Rattle.history.specs.Book.{Entry, Book, billing, control, neighbouring, failed, admitted, denied, permitted, closed, is, isFrom, isFaulty, monthOf, denialsOf, discards, billingOf, thisMonths, sourceOf, faultSince, isRepeat, becamePast, runOf, hoursAt, latestHours, orElse, pastOf, volumes, inputsOf, nothing, workOut, feed}
 use Rattle.history.proofs.View.{looking}
 
 unfoldable pub reading : Unit {0}
@@ -134,7 +134,7 @@ any-fault = (refl, refl, refl, refl)
 
 -- THE RUN: 0 after grounds 1 and 2 and after a repeat, one more after every other closing, and as it was after any other call
 metered :
-    (isMetered (shut 1 []) ≡ true) × (isMetered (shut 2 []) ≡ true) × (isMetered (shut 3 []) ≡ false) × (isMetered (shut 9 []) ≡ false) × (isMetered (called (billingVolume 5)) ≡ false)
+    (becamePast (shut 1 []) ≡ true) × (becamePast (shut 2 []) ≡ true) × (becamePast (shut 3 []) ≡ false) × (becamePast (shut 9 []) ≡ false) × (becamePast (called (billingVolume 5)) ≡ false)
 unfolding reading
 metered = (refl, refl, refl, refl, refl)
 

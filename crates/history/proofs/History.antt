@@ -23,8 +23,8 @@ use Rattle.model.specs.Model.{State, state, slot, refusal, accepted, leaves, fi
 use Rattle.model.specs.Opening.{opens, opened, openLeaves, openAnswer, Opens}
 use Rattle.model.proofs.Laws.{allowed}
 use Rattle.model.proofs.GoesOn.{opening-sound, never-refused}
-use Rattle.history.specs.Book.{Book, marksOf, monthOf, isMetered, volumes, workOut, feed}
-use Rattle.history.specs.Claim.{Turn, left, Follows, Run, took, closes, book, handed, allHanded, measures, lastBuffer, kept, Each, Untouched, AsBook, GoesOn, Demand3Always}
+use Rattle.history.specs.Book.{Book, marksOf, monthOf, becamePast, volumes, workOut, feed}
+use Rattle.history.specs.Claim.{Turn, left, Follows, Run, took, closes, book, handed, allHanded, fillsRow, lastBuffer, withoutRefused, Each, Untouched, AsBook, GoesOn, Demand3Always}
 use Rattle.history.proofs.Rows.{take-row, holds-same, holds-none}
 use Rattle.history.proofs.View.{lastIn, contents, pointOf, looking, Formed, Fine, Shows}
 use Rattle.history.proofs.Inputs.{month-contents}
@@ -127,16 +127,16 @@ each s P h [] f = tt
 each s P h (t ∷ ts) f = (h t ts f, each s P h ts (f .1))
 
 -- THE LIST WITHOUT ITS REFUSED CALLS
-kept-left : (s : State) (ts : List Turn) → Follows s ts → left s (kept ts) ≡ left s ts
-unfolding Follows kept left
+kept-left : (s : State) (ts : List Turn) → Follows s ts → left s (withoutRefused ts) ≡ left s ts
+unfolding Follows withoutRefused left
 kept-left s [] f = refl
 kept-left s (t ∷ ts) f =
     by-cases (took t)
     (λ y. rw y)
     (λ n. rw n (kept-left s ts (f .1) ∙ sym (left-refused s t ts (f .0) n)))
 
-kept-follows : (s : State) (ts : List Turn) → Follows s ts → Follows s (kept ts)
-unfolding Follows kept
+kept-follows : (s : State) (ts : List Turn) → Follows s ts → Follows s (withoutRefused ts)
+unfolding Follows withoutRefused
 kept-follows s [] f = tt
 kept-follows s (t ∷ ts) f =
     by-cases (took t)
@@ -217,8 +217,8 @@ module _ (o : Opening) (s : State) (begun : Shows o [] s) where
   volumes-handed (t ∷ ts) f = volumes-next t ts f ∙ ap (λ (n : ℕ). sum (handed o t ts) + n) (volumes-handed ts (f .1))
 
   -- the rows: the hours of the last closing of a calendar month on ground 1 or 2
-  last-next : (r : ℕ) (t : Turn) (ts : List Turn) → Follows s (t ∷ ts) → asRow (lastIn o (book o (t ∷ ts)) r) ≡ cond (measures o r t ts) (t .buffer) (asRow (lastIn o (book o ts) r))
-  unfolding lastIn book feed measures closes isMetered becomesPast figures
+  last-next : (r : ℕ) (t : Turn) (ts : List Turn) → Follows s (t ∷ ts) → asRow (lastIn o (book o (t ∷ ts)) r) ≡ cond (fillsRow o r t ts) (t .buffer) (asRow (lastIn o (book o ts) r))
+  unfolding lastIn book feed fillsRow closes becamePast becomesPast figures
   last-next r t ts f =
       by-cases (took t)
       (λ y.
@@ -234,7 +234,7 @@ module _ (o : Opening) (s : State) (begun : Shows o [] s) where
   last-buffer : (r : ℕ) (ts : List Turn) → Follows s ts → asRow (lastIn o (book o ts) r) ≡ lastBuffer o r ts
   unfolding lastBuffer lastIn book Follows padded
   last-buffer r [] f = refl
-  last-buffer r (t ∷ ts) f = last-next r t ts f ∙ ap (λ (x : List ℕ). cond (measures o r t ts) (t .buffer) x) (last-buffer r ts (f .1))
+  last-buffer r (t ∷ ts) f = last-next r t ts f ∙ ap (λ (x : List ℕ). cond (fillsRow o r t ts) (t .buffer) x) (last-buffer r ts (f .1))
 
   rows : (ts : List Turn) → Follows s ts → (r : ℕ) → r < 12 → rowPart (left s ts .store) r 744 ≡ lastBuffer o r ts
   rows ts f r l = keep ts f .rows .rows r (omega arith) ∙ ap asRow (month-contents o (book o ts) r l) ∙ last-buffer r ts f

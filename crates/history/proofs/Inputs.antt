@@ -18,7 +18,7 @@ use Rattle.rows.specs.Store.{asRow}
 use Rattle.rules.specs.Calls.{Opening}
 use Rattle.rules.specs.Rules.{Measured, missing, hourly, whole, Stated, unstated, stated, PastHours, none, some, becomesPast}
 use Rattle.model.specs.Model.{measuredIn, statedIn, slot, lastYear, pastIn, inputs}
-use Rattle.history.specs.Book.{Entry, Book, control, closed, is, monthOf, billingOf, thisMonths, sourceOf, isMetered, hoursAt, latestHours, orElse, pastOf, inputsOf}
+use Rattle.history.specs.Book.{Entry, Book, control, closed, is, monthOf, billingOf, thisMonths, sourceOf, becamePast, hoursAt, latestHours, orElse, pastOf, inputsOf}
 use Rattle.history.proofs.Rows.{take-row, row-hours}
 use Rattle.history.proofs.View.{givenBy, statedBy, hoursOf, latestOf, yearIn, lastIn, contents, pointOf, seen, Formed, Entered, Fine, Shows}
 use Rattle.history.proofs.Months.{month-open, grows}
@@ -42,11 +42,11 @@ stated-same (stated v) = refl
 
 -- THE PAST
 -- a closing on ground 1 or 2 opens the next month
-metered-closed : (e : Entry) → isMetered e ≡ true → is closed e ≡ true
-unfolding isMetered
+metered-closed : (e : Entry) → becamePast e ≡ true → is closed e ≡ true
+unfolding becamePast
 metered-closed e m = both (is closed e) (becomesPast (e .out)) m .0
 
-after-metered : (o : Opening) (e : Entry) (es : Book) → Entered o e es → isMetered e ≡ true → monthNumber (monthOf o (e ∷ es)) ≡ monthNumber (monthOf o es) + 1
+after-metered : (o : Opening) (e : Entry) (es : Book) → Entered o e es → becamePast e ≡ true → monthNumber (monthOf o (e ∷ es)) ≡ monthNumber (monthOf o es) + 1
 unfolding monthOf
 after-metered o e es f m =
     let t = metered-closed e m in
@@ -58,7 +58,7 @@ unfolding hoursAt Fine
 none-at o n [] f l = refl
 none-at o n (e ∷ es) f l =
     let g = grows o e es (f .0) in
-    by-cases (isMetered e)
+    by-cases (becamePast e)
     (λ m.
     let s = after-metered o e es (f .0) m in
     rw (m, ne-eqb (monthNumber (monthOf o es)) n (omega arith)) (none-at o n es (f .1) (omega arith)))
@@ -81,7 +81,7 @@ unfolding Fine yearIn lastIn hoursAt orElse
 year-same o [] f d h l q = rw (ne-eqb 0 (d .year) (omega (arith, h .year)))
 year-same o (e ∷ es) f d h l q =
     let g = grows o e es (f .0) in
-    by-cases (isMetered e)
+    by-cases (becamePast e)
     (λ m.
     let s = after-metered o e es (f .0) m in
     let d₀ : Date = monthOf o es in
@@ -110,7 +110,7 @@ latest-same : (o : Opening) (es : Book) → Fine o es
 unfolding Fine latestOf lastIn latestHours
 latest-same o [] f = refl
 latest-same o (e ∷ es) f =
-    by-cases (isMetered e)
+    by-cases (becamePast e)
     (λ m.
     let d : Date = monthOf o es in
     let k : OpenLimits d = open-limits d (month-open o es (f .1)) in

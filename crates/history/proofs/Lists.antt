@@ -14,7 +14,7 @@ use Rattle.rows.specs.Store.{emptyStore}
 use Rattle.model.specs.Refusals.{refuse, openRefusal}
 use Rattle.model.specs.Model.{State, state, answer, leaves, bufferAfter}
 use Rattle.model.specs.Opening.{opens, opened, openLeaves, openAnswer}
-use Rattle.history.specs.Claim.{Turn, left, Follows, Run, took, closes, book, handed, allHanded, measures, lastBuffer, kept}
+use Rattle.history.specs.Claim.{Turn, left, Follows, Run, took, closes, book, handed, allHanded, fillsRow, lastBuffer, withoutRefused}
 use Rattle.history.proofs.Examples.{o, reading}
 
 -- THE TURNS OF A LIST OF CALLS, each as its contract has it
@@ -92,7 +92,7 @@ again zero t ts = ts
 again (suc n) t ts = t ∷ again n t ts
 
 unfoldable listing : Unit {0}
-unfolding reading left took closes book handed allHanded measures lastBuffer kept openHours monthHours monthDays leapYear isMonth
+unfolding reading left took closes book handed allHanded fillsRow lastBuffer withoutRefused openHours monthHours monthDays leapYear isMonth
 listing = tt
 
 -- accepted is number 0; only an accepted closing closes
@@ -116,8 +116,8 @@ hands = (refl, refl, refl, refl, refl, refl)
 
 -- an accepted closing on ground 1 or 2, of that calendar month in any year
 measured :
-    (measures o 0 (shut 1 5) [] ≡ true) × (measures o 0 (shut 2 5) [] ≡ true) × (measures o 0 (shut 3 5) [] ≡ false) × (measures o 0 (refused 5) [] ≡ false)
-    × (measures o 1 (shut 1 5) [] ≡ false) × (measures o 1 (shut 1 5) (shut 8 1 ∷ []) ≡ true) × (measures o 0 (shut 1 5) (again 12 (shut 8 1) []) ≡ true)
+    (fillsRow o 0 (shut 1 5) [] ≡ true) × (fillsRow o 0 (shut 2 5) [] ≡ true) × (fillsRow o 0 (shut 3 5) [] ≡ false) × (fillsRow o 0 (refused 5) [] ≡ false)
+    × (fillsRow o 1 (shut 1 5) [] ≡ false) × (fillsRow o 1 (shut 1 5) (shut 8 1 ∷ []) ≡ true) × (fillsRow o 0 (shut 1 5) (again 12 (shut 8 1) []) ≡ true)
 unfolding listing
 measured = (refl, refl, refl, refl, refl, refl, refl)
 
@@ -129,6 +129,6 @@ unfolding listing
 lasts = (refl, refl, refl, refl, refl)
 
 -- the list without its refused calls
-keeps : kept (refused 1 ∷ shut 8 1 ∷ said denial 33 0 [] ∷ said permission 0 0 [] ∷ []) ≡ shut 8 1 ∷ said permission 0 0 [] ∷ []
+keeps : withoutRefused (refused 1 ∷ shut 8 1 ∷ said denial 33 0 [] ∷ said permission 0 0 [] ∷ []) ≡ shut 8 1 ∷ said permission 0 0 [] ∷ []
 unfolding listing
 keeps = refl

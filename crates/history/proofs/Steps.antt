@@ -19,7 +19,7 @@ use Rattle.model.specs.Model.{accept, accepted}
 use Rattle.model.proofs.Laws.{read}
 use Rattle.model.proofs.Keeps.{own}
 use Rattle.model.proofs.GoesOn.{call-sound}
-use Rattle.history.specs.Book.{Entry, Book, control, closed, kindOf, place, is, monthOf, denialsOf, billingOf, thisMonths, isMetered, workOut}
+use Rattle.history.specs.Book.{Entry, Book, control, closed, kindOf, kindNumber, is, monthOf, denialsOf, billingOf, thisMonths, becamePast, workOut}
 use Rattle.history.proofs.Rows.{Holds, upd, holds-same, holds-put}
 use Rattle.history.proofs.View.{givenBy, hoursOf, lastIn, contents, pointOf, seen, looking, Formed, Entered, Fine, Shows}
 use Rattle.history.proofs.Months.{last-is-any}
@@ -52,7 +52,7 @@ tested {a} {b} e = eqb-true a b (not-false (eqb a b) e)
 
 -- an entry closes a month where its call does
 pub entry-closes : (c : Call) (u : Outcome) → is closed (record { call = c; out = u }) ≡ isClosing c
-unfolding is kindOf place isClosing
+unfolding is kindOf kindNumber isClosing
 entry-closes (billingHours hs) u = refl
 entry-closes (controlHours hs) u = refl
 entry-closes (billingVolume v) u = refl
@@ -66,7 +66,7 @@ entry-closes (closing marks buffer) u = refl
 
 -- and else nothing is asked of it
 open-entered : (o : Opening) (es : Book) (c : Call) → isClosing c ≡ false → Entered o (entry o es c) es
-unfolding isMetered
+unfolding becamePast
 open-entered o es c f =
     let n : is closed (entry o es c) ≡ false = entry-closes c (workOut o es c) ∙ f in
     record {

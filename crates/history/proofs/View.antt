@@ -15,7 +15,7 @@ use Rattle.rules.specs.Calls.{Opening, isClosing}
 use Rattle.rules.specs.Rules.{Measured, missing, hourly, whole, Stated, unstated, stated}
 use Rattle.model.specs.Model.{State, state, slot}
 use Rattle.model.specs.Sound.{Sound}
-use Rattle.history.specs.Book.{Entry, Book, control, failed, admitted, closed, kindOf, place, is, argumentOf, readingOf, marksOf, isFrom, isFaulty, monthOf, denialsOf, discards, billingOf, thisMonths, asStated, sourceOf, isRepeat, isMetered, runOf, volumes, workOut}
+use Rattle.history.specs.Book.{Entry, Book, control, failed, admitted, closed, kindOf, kindNumber, is, argumentOf, readingOf, marksOf, isFrom, isFaulty, monthOf, denialsOf, discards, billingOf, thisMonths, asStated, sourceOf, isRepeat, becamePast, runOf, volumes, workOut}
 use Rattle.history.proofs.Rows.{Holds}
 
 -- WHAT A BOOK DESCRIBES
@@ -47,16 +47,16 @@ faultOf o (e ∷ es) = cond (isFaulty e) (monthNumber (monthOf o es)) (faultOf o
 -- the month of the latest closing on ground 1 or 2, 0 for none
 unfoldable pub latestOf : Opening → Book → ℕ
 latestOf o [] = 0
-latestOf o (e ∷ es) = cond (isMetered e) (monthNumber (monthOf o es)) (latestOf o es)
+latestOf o (e ∷ es) = cond (becamePast e) (monthNumber (monthOf o es)) (latestOf o es)
 
 -- of the last closing of the calendar month r on ground 1 or 2: the year and the hours
 unfoldable pub yearIn : Opening → Book → ℕ → ℕ
 yearIn o [] r = 0
-yearIn o (e ∷ es) r = cond (isMetered e && eqb r (slot (monthOf o es))) (monthOf o es .year) (yearIn o es r)
+yearIn o (e ∷ es) r = cond (becamePast e && eqb r (slot (monthOf o es))) (monthOf o es .year) (yearIn o es r)
 
 unfoldable pub lastIn : Opening → Book → ℕ → List ℕ
 lastIn o [] r = []
-lastIn o (e ∷ es) r = cond (isMetered e && eqb r (slot (monthOf o es))) (e .out .hours) (lastIn o es r)
+lastIn o (e ∷ es) r = cond (becamePast e && eqb r (slot (monthOf o es))) (e .out .hours) (lastIn o es r)
 
 -- the hours in row r
 unfoldable pub contents : Opening → Book → ℕ → List ℕ
@@ -90,7 +90,7 @@ seen o es store = state (pointOf o es) store
 -- what unfolds with an entry, by one name
 unfoldable pub looking : Unit {0}
 unfolding givenBy statedBy hoursOf servingOf faultOf latestOf yearIn lastIn
-    is kindOf place argumentOf readingOf marksOf isFrom isFaulty monthOf denialsOf discards billingOf thisMonths asStated sourceOf isRepeat isMetered runOf volumes workOut isClosing
+    is kindOf kindNumber argumentOf readingOf marksOf isFrom isFaulty monthOf denialsOf discards billingOf thisMonths asStated sourceOf isRepeat becamePast runOf volumes workOut isClosing
 looking = tt
 
 -- WHAT HOLDS OF A BOOK
@@ -103,7 +103,7 @@ Formed kind t (whole v) = kind ≡ 2
 -- only a month that is calculated was closed, and on ground 1 or 2 with as many hours as it has
 pub record Entered (o : Opening) (e : Entry) (es : Book) : Type 0 where
   pub month : is closed e ≡ true → isMonth (monthOf o es) ≡ true
-  pub long : isMetered e ≡ true → length (e .out .hours) ≡ openHours (monthOf o es)
+  pub long : becamePast e ≡ true → length (e .out .hours) ≡ openHours (monthOf o es)
 
 unfoldable pub Fine : Opening → Book → Type 0
 Fine o [] = isMonth (o .date) ≡ true

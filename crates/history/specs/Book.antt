@@ -35,19 +35,19 @@ kindOf denial = denied
 kindOf permission = permitted
 kindOf (closing marks buffer) = closed
 
--- kinds are told apart by their places in the list above
-unfoldable pub place : Kind → ℕ
-place billing = 0
-place control = 1
-place neighbouring = 2
-place failed = 3
-place admitted = 4
-place denied = 5
-place permitted = 6
-place closed = 7
+-- kinds are told apart by numbers
+unfoldable pub kindNumber : Kind → ℕ
+kindNumber billing = 0
+kindNumber control = 1
+kindNumber neighbouring = 2
+kindNumber failed = 3
+kindNumber admitted = 4
+kindNumber denied = 5
+kindNumber permitted = 6
+kindNumber closed = 7
 
 unfoldable pub is : Kind → Entry → Bool
-is k e = eqb (place (kindOf (e .call))) (place k)
+is k e = eqb (kindNumber (kindOf (e .call))) (kindNumber k)
 
 -- the source of a neighbour reading, the reason of a failure
 unfoldable pub argumentOf : Call → ℕ
@@ -143,19 +143,19 @@ unfoldable pub isRepeat : Opening → Entry → Book → Bool
 isRepeat o e es = isFaulty e && faultSince o (monthNumber (monthOf o es)) es
 
 -- a closing on ground 1 or 2
-unfoldable pub isMetered : Entry → Bool
-isMetered e = is closed e && becomesPast (e .out)
+unfoldable pub becamePast : Entry → Bool
+becamePast e = is closed e && becomesPast (e .out)
 
 -- run: the closings since the latest of the opening, a closing on ground 1 or 2, and a repeat
 unfoldable pub runOf : Opening → Book → ℕ
 runOf o [] = 0
 runOf o (e ∷ es) =
-    cond (isMetered e || isRepeat o e es) 0 (cond (is closed e) (suc (runOf o es)) (runOf o es))
+    cond (becamePast e || isRepeat o e es) 0 (cond (is closed e) (suc (runOf o es)) (runOf o es))
 
 -- the book's hours of the month n, if closed on ground 1 or 2
 unfoldable pub hoursAt : Opening → ℕ → Book → PastHours
 hoursAt o n [] = none
-hoursAt o n (e ∷ es) = cond (isMetered e && eqb (monthNumber (monthOf o es)) n) (some (e .out .hours)) (hoursAt o n es)
+hoursAt o n (e ∷ es) = cond (becamePast e && eqb (monthNumber (monthOf o es)) n) (some (e .out .hours)) (hoursAt o n es)
 
 -- the first, or else the second
 unfoldable pub orElse : PastHours → PastHours → PastHours
@@ -165,7 +165,7 @@ orElse (some hs) q = some hs
 -- of the latest closing on 1 or 2
 unfoldable pub latestHours : Book → PastHours
 latestHours [] = none
-latestHours (e ∷ es) = cond (isMetered e) (some (e .out .hours)) (latestHours es)
+latestHours (e ∷ es) = cond (becamePast e) (some (e .out .hours)) (latestHours es)
 
 -- past: the book's hours of the same month last year, if closed on ground 1 or 2; else of the latest closing on 1 or 2; else none
 unfoldable pub pastOf : Opening → Book → PastHours

@@ -68,19 +68,19 @@ allHanded o [] = 0
 allHanded o (t ∷ ts) = sum (handed o t ts) + allHanded o ts
 
 -- an accepted closing of the calendar month r (0 for January), in any year, on ground 1 or 2
-unfoldable pub measures : Opening → ℕ → Turn → List Turn → Bool
-measures o r t ts =
+unfoldable pub fillsRow : Opening → ℕ → Turn → List Turn → Bool
+fillsRow o r t ts =
     closes t && ((eqb (t .answer .figures .ground) 1 || eqb (t .answer .figures .ground) 2) && eqb r (slot (monthOf o (book o ts))))
 
 -- the whole hour buffer after the last of them, all 0 if there was none
 unfoldable pub lastBuffer : Opening → ℕ → List Turn → List ℕ
 lastBuffer o r [] = zeros 744
-lastBuffer o r (t ∷ ts) = cond (measures o r t ts) (t .buffer) (lastBuffer o r ts)
+lastBuffer o r (t ∷ ts) = cond (fillsRow o r t ts) (t .buffer) (lastBuffer o r ts)
 
 -- the list without its refused calls
-unfoldable pub kept : List Turn → List Turn
-kept [] = []
-kept (t ∷ ts) = cond (took t) (t ∷ kept ts) (kept ts)
+unfoldable pub withoutRefused : List Turn → List Turn
+withoutRefused [] = []
+withoutRefused (t ∷ ts) = cond (took t) (t ∷ withoutRefused ts) (withoutRefused ts)
 
 -- P holds of each turn and the turns before it
 abbrev pub Each : (Turn → List Turn → Type 0) → List Turn → Type 0
@@ -100,7 +100,7 @@ pub record AsBook (o : Opening) (t : Turn) (ts : List Turn) : Type 0 where
   pub buffer : t .buffer ≡ asRow (workOut o (book o ts) (t .call) .hours)
   pub figures : t .answer .figures ≡ figures (workOut o (book o ts) (t .call)) (marksOf (t .call))
 
--- a number other than those that no call gives after an accepted opening: 1 of the store's length, 2 of the record, 45 of the store's words
+-- none of the numbers that no call gives after an accepted opening: 1 the store's length, 2 the record, 45 the store's words
 pub record GoesOn (number : ℕ) : Type 0 where
   pub long : number ≢ 1
   pub sound : number ≢ 2
@@ -112,8 +112,8 @@ pub record Demand3 (o : Opening) (s : State) (ts : List Turn) : Type 0 where
   pub asDemand2 : Each (λ t before. t .answer .refusal ≡ refusal (left s before) (t .call)) ts
   -- refused calls leave no trace: nothing changes at them, and the list without them is a run to the same record and store
   pub untouched : Each (λ t before. took t ≡ false → Untouched s t before) ts
-  pub sameRun : Run o s (kept ts)
-  pub sameState : left s (kept ts) ≡ left s ts
+  pub sameRun : Run o s (withoutRefused ts)
+  pub sameState : left s (withoutRefused ts) ≡ left s ts
   -- each accepted closing equals the book
   pub byBook : Each (λ t before. closes t ≡ true → AsBook o t before) ts
   -- the total equals all hours handed out and the book's volumes

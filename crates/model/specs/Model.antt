@@ -112,21 +112,24 @@ abbrev pub rowsAfter : Bool → List ℕ → Date → List ℕ → List ℕ
 rowsAfter new hs d store = cond new (withHours (slot d) hs store) store
 
 -- the total grows, rows 12 and 13 and the readings clear, the next month opens
+abbrev pub pointAfter : Bool → ℕ → Record → Record
+pointAfter new volume r =
+    record {
+      opened = r .opened;
+      contract = r .contract;
+      date = nextMonth (r .date);
+      service = withRun (r .service) (runAfter new (r .service .run));
+      past = pastAfter new (r .past) (r .date);
+      readings = noReadings;
+      total = kwh (r .total .0 + volume);
+    }
+
+abbrev pub storeAfter : Bool → List ℕ → Date → List ℕ → List ℕ
+storeAfter new hs d store = withoutHours 13 (withoutHours 12 (rowsAfter new hs d store))
+
 unfoldable pub closedWith : Outcome → State → State
 closedWith u s =
-    record {
-      point =
-          record {
-            opened = s .point .opened;
-            contract = s .point .contract;
-            date = nextMonth (s .point .date);
-            service = withRun (s .point .service) (runAfter (becomesPast u) (s .point .service .run));
-            past = pastAfter (becomesPast u) (s .point .past) (s .point .date);
-            readings = noReadings;
-            total = kwh (s .point .total .0 + u .volume);
-          };
-      store = withoutHours 13 (withoutHours 12 (rowsAfter (becomesPast u) (u .hours) (s .point .date) (s .store)));
-    }
+    state (pointAfter (becomesPast u) (u .volume) (s .point)) (storeAfter (becomesPast u) (u .hours) (s .point .date) (s .store))
 
 -- WHAT AN ACCEPTED CALL LEAVES. A reading is given, with the volume of an integral or neighbour one; hours are written only into their own row
 unfoldable pub accept : State → Call → State

@@ -1,15 +1,13 @@
 // A month played through the public calls. What their contracts promise makes a run, so demand 3 speaks of it.
-ghost use mathlib.Core.Path.{_≡_};
-ghost use lib.ListN.{take};
-ghost use Rattle.numbers.specs.Lists.{sum};
-ghost use Rattle.calendar.specs.Calendar.{openHours};
+ghost use Rattle.played.specs.Played.{Played};
 use calendar::Date;
 use closing::close;
 use contract::Contract;
 use model::Answer;
 use opening::open_point;
 
-// Opens a point and closes its first month. If both calls are accepted, the total is the sum of the hours handed out.
+// Opens a point and, if the opening is accepted, closes its first month. If that is accepted too, the total is the sum of
+// the hours handed out.
 pub fn open_and_close(
     asked: Contract,
     date: Date,
@@ -19,7 +17,10 @@ pub fn open_and_close(
     marks: &[u8],
     hours: &mut [u32],
 ) -> Answer
-    ensures { λ a. ⌜ (a .refusal ≡ 0 → a .after .total .0 ≡ sum (take (openHours date) (now (hours .exit)))) ⌝ }
+    ensures { λ a. ⌜
+        Played (record { asked = asked; date = date; currents = now (currents .entry); place = place })
+        (now (store .entry)) (now (marks .entry)) (now (hours .entry)) a (now (store .exit)) (now (hours .exit))
+        ⌝ }
 {
     let first = open_point(asked, date, currents, place, store);
     if first.refusal != 0 {

@@ -1,7 +1,7 @@
 -- `played::open_and_close` meets its contract. Assumes nothing.
 use borrow.Author.Needs.{needs}
 use denote.Ref.{now}
-use Rattle.played.proofs.Months.{one-month}
+use Rattle.played.proofs.Months.{opened-only, opened-and-closed}
 use Rattle.played.proofs.open_and_close.Statement.{statement}
 use Rattle.played.proofs.open_and_close.Tie as tie
 
@@ -11,8 +11,8 @@ open-and-close-spec =
     (tie.spec
     (λ c κs. search needs)
     (λ c. search needs)
-    (λ c. search needs)
+    (λ c. let a = c .before .before .before .before .before .before .before .before .before .before .args in opened-only (record { asked = a .asked; date = a .date; currents = now (a .currents); place = a .place }) (now (a .store)) (now (a .marks)) (now (a .hours)) _ (c .before .before .before .before .open-point .ensures) (c .if1 .taken))
     (λ c κs. search needs)
     (λ c. search needs)
     (λ c. search needs)
-    (λ c. let a = c .before .before .before .before .before .before .before .before .before .before .before .before .before .before .before .before .before .before .args in one-month (record { asked = a .asked; date = a .date; currents = now (a .currents); place = a .place }) (now (a .store)) _ (now (a .marks)) (now (a .hours)) (c .before .before .before .before .before .before .before .before .before .before .before .before .open-point .result) (c .before .before .before .before .before .before .before .before .before .before .before .before .open-point .ensures) (c .before .before .before .before .before .before .before .before .if1 .left) (c .before .before .before .before .close .ensures)))
+    (λ c. let a = c .before .before .before .before .before .before .before .before .before .before .before .before .before .before .before .before .before .before .args in opened-and-closed (record { asked = a .asked; date = a .date; currents = now (a .currents); place = a .place }) (now (a .store)) _ (now (a .marks)) (now (a .hours)) (c .before .before .before .before .before .before .before .before .before .before .before .before .open-point .result) (c .before .before .before .before .before .before .before .before .before .before .before .before .open-point .ensures) (c .before .before .before .before .before .before .before .before .if1 .left) (c .before .before .before .before .close .ensures)))

@@ -1,6 +1,8 @@
 -- `closing::store_after` meets its contract. Assumes nothing.
 use borrow.Author.Needs.{needs}
 use denote.Ref.{now}
+use Rattle.calendar.proofs.Laws.{limits}
+use Rattle.model.proofs.Closes.{slot-row}
 use Rattle.closing.proofs.Leaves.{store-is}
 use Rattle.closing.proofs.after.store_after.Statement.{statement}
 use Rattle.closing.proofs.after.store_after.Tie as tie
@@ -9,8 +11,10 @@ pub store-after-spec : {M : Type 1} → statement M
 store-after-spec =
     tie.close
     (tie.spec
-    (λ c κs. search needs)
+    (λ c. limits _ (c .before .before .before .pre .1) .first)
+    (λ c. search needs)
+    (λ c κs. let p = c .before .before .before .before .pre in (p .0, slot-row _ (p .1), p .2))
     (λ c κs. search needs)
     (λ c κs. search needs)
     (λ c. search needs)
-    (λ c. let a = c .before .before .before .before .before .before .before .before .before .before .before .before .before .before .args in let p = c .before .before .before .before .before .before .before .before .before .before .before .before .before .before .pre in store-is (a .new) (a .row) (now (a .hours)) (now (a .store)) (p .0) (p .1) (p .2) (c .before .before .before .before .before .before .before .before .before .before .keep-hours .ensures) (c .before .before .before .before .before .before .clear-row .ensures) (c .before .before .clear-row2 .ensures)))
+    (λ c. let a = c .before .before .before .before .before .before .before .before .before .before .before .before .before .before .before .args in let p = c .before .before .before .before .before .before .before .before .before .before .before .before .before .before .before .pre in store-is (a .new) (a .d) (now (a .hours)) (now (a .store)) (p .0) (p .1) (p .2) (c .before .before .before .before .before .before .before .before .before .before .keep-hours .ensures) (c .before .before .before .before .before .before .clear-row .ensures) (c .before .before .clear-row2 .ensures)))
