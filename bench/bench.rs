@@ -2,6 +2,9 @@
 //
 //     bench/run            compares and times
 //     bench/run --check    compares only, and prints 'N passed, M failed'
+mod common;
+
+use common::{median, Random, Tests};
 use std::hint::black_box;
 use std::time::Instant;
 
@@ -117,32 +120,6 @@ fn scan_rust(words: &[u32], limit: u32) -> bool {
     !words.iter().any(|&w| w > limit)
 }
 
-struct Random(u64);
-
-impl Random {
-    fn next(&mut self, below: u64) -> u64 {
-        self.0 ^= self.0 << 13;
-        self.0 ^= self.0 >> 7;
-        self.0 ^= self.0 << 17;
-        (self.0 >> 11) % below
-    }
-}
-
-// Counts comparisons by name, so that each name is one test however often it runs.
-#[derive(Default)]
-struct Tests {
-    names: Vec<(&'static str, bool)>,
-}
-
-impl Tests {
-    fn check(&mut self, name: &'static str, ok: bool) {
-        match self.names.iter_mut().find(|(n, _)| *n == name) {
-            Some((_, all)) => *all &= ok,
-            None => self.names.push((name, ok)),
-        }
-    }
-}
-
 fn compare(tests: &mut Tests) {
     let mut random = Random(88172645463325252);
     let volumes = [0, 1, 7, 1000, 123_456_789, VOLUME_MAX - 1, VOLUME_MAX, VOLUME_MAX + 1, u64::MAX];
@@ -196,11 +173,6 @@ fn sample(f: &mut impl FnMut()) -> f64 {
     start.elapsed().as_nanos() as f64 / 200.0
 }
 
-fn median(mut samples: Vec<f64>) -> f64 {
-    samples.sort_by(|x, y| x.total_cmp(y));
-    samples[samples.len() / 2]
-}
-
 // The medians of 100 samples each, taken in turn after a warming up, and their ratio.
 fn report(name: &str, mut rust: impl FnMut(), mut rattle: impl FnMut()) {
     for _ in 0..20 {
@@ -247,15 +219,5 @@ fn measure() {
 }
 
 fn main() {
-    let mut tests = Tests::default();
-    compare(&mut tests);
-    for (name, _) in tests.names.iter().filter(|(_, ok)| !ok) {
-        println!("FAIL {name}");
-    }
-    let failed = tests.names.iter().filter(|(_, ok)| !ok).count();
-    if std::env::args().nth(1).as_deref() != Some("--check") {
-        measure();
-    }
-    println!("{} passed, {failed} failed", tests.names.len() - failed);
-    std::process::exit((failed != 0) as i32);
+    common::run(compare, measure)
 }
