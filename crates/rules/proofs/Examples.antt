@@ -30,6 +30,7 @@ neighbours = (refl, refl, refl, refl, refl)
 
 -- ground 6 is not for marks without peak hours; 7 / 2 is below 4 / 1, though both are 4 as rounded capacities
 six : (groundSix 6 1 2 3 ≡ false) × (groundSix 6 1 2 4 ≡ true) × (groundSix 0 1 0 4 ≡ false) × (groundSix 0 1 1 0 ≡ false) × (groundSix 7 1 2 4 ≡ true)
+unfolding capacityOf halfUp
 six = (refl, refl, refl, refl, refl)
 
 -- a closing of January 2023: contract, marks, R, billing and control readings, N, past
