@@ -1,0 +1,46 @@
+# make            builds target/lib/libsallowbingo.a with the Rattle kit (rt), if it is missing or older than a source
+# make install    installs header, archive and pkg-config file under PREFIX; builds only if there is no archive at all
+# make uninstall  removes them
+# make check      runs every test
+PREFIX ?= /usr/local
+INCLUDEDIR ?= $(PREFIX)/include
+LIBDIR ?= $(PREFIX)/lib
+INSTALL ?= install
+
+version := $(shell cat VERSION)
+sources := $(shell find crates -name must-fail -prune -o -type f -print)
+compiled := target/staticlib/libcapi.a
+archive := target/lib/libsallowbingo.a
+installed := "$(DESTDIR)$(INCLUDEDIR)/sallowbingo.h" "$(DESTDIR)$(LIBDIR)/libsallowbingo.a" \
+    "$(DESTDIR)$(LIBDIR)/pkgconfig/sallowbingo.pc"
+
+.PHONY: all install uninstall check
+.DELETE_ON_ERROR:
+
+all: $(archive)
+
+# The time is set because rt may leave an archive that did not change as it is.
+$(compiled): $(sources)
+	rt staticlib capi
+	touch $@
+
+$(archive): $(compiled)
+	mkdir -p $(@D)
+	cp $< $@
+
+# An archive that is there is installed as it is, so that an installation needs no kit; an old one is told.
+install:
+	@if [ ! -f $(compiled) ]; then $(MAKE) $(compiled); \
+	elif ! $(MAKE) -q $(compiled); then echo "note: the archive is older than a source; make builds it anew"; fi
+	$(INSTALL) -d "$(DESTDIR)$(INCLUDEDIR)" "$(DESTDIR)$(LIBDIR)/pkgconfig"
+	$(INSTALL) -m 644 include/sallowbingo.h "$(DESTDIR)$(INCLUDEDIR)/sallowbingo.h"
+	$(INSTALL) -m 644 $(compiled) "$(DESTDIR)$(LIBDIR)/libsallowbingo.a"
+	sed -e 's|@PREFIX@|$(PREFIX)|' -e 's|@INCLUDEDIR@|$(INCLUDEDIR)|' -e 's|@LIBDIR@|$(LIBDIR)|' \
+	    -e 's|@VERSION@|$(version)|' sallowbingo.pc.in >"$(DESTDIR)$(LIBDIR)/pkgconfig/sallowbingo.pc"
+	chmod 644 "$(DESTDIR)$(LIBDIR)/pkgconfig/sallowbingo.pc"
+
+uninstall:
+	rm -f $(installed)
+
+check:
+	tools/test
