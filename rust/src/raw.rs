@@ -1,6 +1,6 @@
 //! The C interface as `include/sallowbingo.h` declares it: its structs, field by field, and its functions.
 //!
-//! Names and order are the header's. `tests/raw.rs` holds sizes and offsets to those that the header asserts.
+//! Names and order are the header's. `layout.rs` holds sizes and offsets to those that the archive was compiled with.
 
 /// A power in kW.
 #[repr(C)]
@@ -16,6 +16,7 @@ pub struct Kwh(pub u64);
 #[repr(C)]
 #[derive(Clone, Copy, Debug, Default, PartialEq, Eq, PartialOrd, Ord, Hash)]
 pub struct Date {
+    /// 2014 to 2999; the open year is 3000 once the calendar is over.
     pub year: u32,
     /// 1 to 12.
     pub month: u32,
@@ -25,10 +26,11 @@ pub struct Date {
 #[repr(C)]
 #[derive(Clone, Copy, Debug, Default, PartialEq, Eq, Hash)]
 pub struct Cable {
+    /// 1 to 2,000.
     pub amperes: u32,
-    /// Phase, nominal.
+    /// Phase, nominal, 1 to 250,000.
     pub volts: u32,
-    /// Thousandths of cos φ; 0 means missing and counts as 900.
+    /// Thousandths of cos φ, up to 1,000; 0 means missing and counts as 900.
     pub cosine: u32,
     /// 1 or 3.
     pub phases: u32,
@@ -44,7 +46,9 @@ pub struct Contract {
     pub control: u32,
     /// 1 an agreed power, 2 a share of one, 3 a cable.
     pub basis: u32,
+    /// On bases 1 and 2 the agreed power, 1 to 1,000,000; of a record P.
     pub power: Kw,
+    /// On basis 3 alone.
     pub cable: Cable,
 }
 
@@ -97,7 +101,7 @@ pub struct Record {
     pub total: Kwh,
 }
 
-/// What a closing gives beside the hours.
+/// The figures of a closing, which it gives beside the hours.
 #[repr(C)]
 #[derive(Clone, Copy, Debug, Default, PartialEq, Eq, Hash)]
 pub struct Figures {
@@ -105,6 +109,7 @@ pub struct Figures {
     pub ground: u32,
     /// The month volume.
     pub volume: Kwh,
+    /// C / d rounded half up, and 0 if d is 0.
     pub capacity: Kw,
     /// C, the sum of the volumes in the capacity hours.
     pub sum: Kwh,
