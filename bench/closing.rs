@@ -7,14 +7,10 @@ mod common;
 mod plain;
 
 use common::{median, Random, Tests};
+use plain::raw::{sallowbingo_close, sallowbingo_open_point};
 use plain::{Answer, Cable, Contract, Date, Figures, Kw, Kwh, Past, Reading, Record, BILLING_ROW, CONTROL_ROW, ROW, STORE};
 use std::hint::black_box;
 use std::time::{Duration, Instant};
-
-extern "C" {
-    fn sallowbingo_open_point(asked: Contract, date: Date, currents: *const u32, points: usize, place: usize, store: *mut u32, words: usize) -> Answer;
-    fn sallowbingo_close(r: Record, store: *mut u32, words: usize, marks: *const u8, marks_len: usize, hours: *mut u32, hours_len: usize) -> Answer;
-}
 
 fn open_point(asked: Contract, date: Date, store: &mut [u32]) -> Answer {
     unsafe { sallowbingo_open_point(asked, date, std::ptr::null(), 0, 0, store.as_mut_ptr(), store.len()) }

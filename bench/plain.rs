@@ -7,103 +7,11 @@ pub const BILLING_ROW: usize = 12;
 pub const CONTROL_ROW: usize = 13;
 const MILLION: u64 = 1_000_000;
 
-// The structs of include/sallowbingo.h.
+#[allow(dead_code)] // a benchmark calls few of its functions
+#[path = "../rust/src/raw.rs"]
+pub mod raw;
 
-#[repr(C)]
-#[derive(Clone, Copy, Debug, Default, PartialEq)]
-pub struct Kw(pub u32);
-
-#[repr(C)]
-#[derive(Clone, Copy, Debug, Default, PartialEq)]
-pub struct Kwh(pub u64);
-
-#[repr(C)]
-#[derive(Clone, Copy, Debug, Default, PartialEq)]
-pub struct Date {
-    pub year: u32,
-    pub month: u32,
-}
-
-#[repr(C)]
-#[derive(Clone, Copy, Debug, Default, PartialEq)]
-pub struct Cable {
-    pub amperes: u32,
-    pub volts: u32,
-    pub cosine: u32,
-    pub phases: u32,
-}
-
-#[repr(C)]
-#[derive(Clone, Copy, Debug, Default, PartialEq)]
-pub struct Contract {
-    pub billing: u32,
-    pub control: u32,
-    pub basis: u32,
-    pub power: Kw,
-    pub cable: Cable,
-}
-
-#[repr(C)]
-#[derive(Clone, Copy, Debug, Default, PartialEq)]
-pub struct Service {
-    pub run: u32,
-    pub serving: u32,
-    pub denials: u32,
-    pub fault: u64,
-}
-
-#[repr(C)]
-#[derive(Clone, Copy, Debug, Default, PartialEq)]
-pub struct Past {
-    pub years: [u32; 12],
-    pub latest: u64,
-}
-
-#[repr(C)]
-#[derive(Clone, Copy, Debug, Default, PartialEq)]
-pub struct Reading {
-    pub given: u32,
-    pub volume: Kwh,
-}
-
-#[repr(C)]
-#[derive(Clone, Copy, Debug, Default, PartialEq)]
-pub struct Readings {
-    pub billing: Reading,
-    pub control: Reading,
-    pub first: Reading,
-    pub second: Reading,
-}
-
-#[repr(C)]
-#[derive(Clone, Copy, Debug, Default, PartialEq)]
-pub struct Record {
-    pub opened: u32,
-    pub contract: Contract,
-    pub date: Date,
-    pub service: Service,
-    pub past: Past,
-    pub readings: Readings,
-    pub total: Kwh,
-}
-
-#[repr(C)]
-#[derive(Clone, Copy, Debug, Default, PartialEq)]
-pub struct Figures {
-    pub ground: u32,
-    pub volume: Kwh,
-    pub capacity: Kw,
-    pub sum: Kwh,
-    pub days: u64,
-}
-
-#[repr(C)]
-#[derive(Clone, Copy, Debug, Default, PartialEq)]
-pub struct Answer {
-    pub refusal: u32,
-    pub after: Record,
-    pub figures: Figures,
-}
+pub use raw::{Answer, Cable, Contract, Date, Figures, Kw, Kwh, Past, Reading, Readings, Record, Service};
 
 // Months.
 
