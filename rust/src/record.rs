@@ -1,7 +1,7 @@
 //! A point: its record, and the calls on it.
 
 use crate::raw::{self, Answer, Contract, Date, Figures as Closing, Kwh};
-use crate::{call, month_days, Refusal};
+use crate::{call, month_days, numbers, Refusal};
 
 /// The record of a delivery point.
 ///
@@ -142,5 +142,54 @@ impl Record {
     /// How often access was denied since the last permission: 0 to 2.
     pub fn denials(&self) -> u32 {
         self.0.service.denials
+    }
+}
+
+/// A record as plain numbers, to be kept on disk.
+impl Record {
+    /// The record's fields as numbers, in the order of `sallowbingo_record` in the C header.
+    ///
+    /// To keep a point, keep these and the words of its store; [`Record::from_numbers`] makes the record again. The
+    /// numbers are: 1 for open; the contract's billing, control, basis, power, amperes, volts, cosine and phases; the
+    /// open year and month; run, in service (1) or out (0), denials, month of the last fault; the year that the row of
+    /// each of the twelve calendar months holds, and the latest past month; 1 or 0 for given and the volume of the
+    /// billing, control, first and second neighbour reading; the total. Months of faults and of the past are
+    /// year × 12 + month, or 0 for none.
+    pub fn numbers(&self) -> [u64; 37] {
+        numbers::numbers(&self.0)
+    }
+
+    /// The record of such numbers, or none if one of them does not fit its field of 32 bits.
+    ///
+    /// Any other numbers make a record, and nothing is checked here: the calls refuse a record that no point can have
+    /// with [`Refusal::Record`](crate::Refusal::Record).
+    ///
+    /// ```
+    /// use sallowbingo::{basis, meter, open, Contract, Date, Kw, Record, Refusal, STORE};
+    ///
+    /// let contract = Contract {
+    ///     billing: meter::INTERVAL,
+    ///     control: meter::NO_METER,
+    ///     basis: basis::AGREED_POWER,
+    ///     power: Kw(100),
+    ///     ..Contract::default()
+    /// };
+    /// let mut store = [0; STORE];
+    /// let point = open(contract, Date { year: 2024, month: 2 }, &[], 0, &mut store)?;
+    ///
+    /// let mut numbers = point.numbers();
+    /// assert_eq!(numbers[..11], [1, 1, 0, 1, 100, 0, 0, 0, 0, 2024, 2]);
+    /// assert_eq!(Record::from_numbers(numbers), Some(point));
+    ///
+    /// numbers[10] = 13; // a month that no point can have
+    /// let mut wrong = Record::from_numbers(numbers).unwrap();
+    /// assert_eq!(wrong.deny(&mut store), Err(Refusal::Record));
+    ///
+    /// numbers[10] = 1 << 32; // does not fit
+    /// assert_eq!(Record::from_numbers(numbers), None);
+    /// # Ok::<(), Refusal>(())
+    /// ```
+    pub fn from_numbers(numbers: [u64; 37]) -> Option<Record> {
+        numbers::from_numbers(numbers).map(Record)
     }
 }
