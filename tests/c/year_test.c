@@ -59,6 +59,27 @@ static int handed_out(void) {
         && memcmp(buffer + HOURS, buffer_was + HOURS, sizeof buffer - sizeof expected) == 0;
 }
 
+/* What a closing gives: ground, month volume, C, d and capacity, and the total and the run that it leaves. */
+typedef struct {
+    uint32_t ground;
+    uint64_t volume, c, d, capacity, total, run;
+} closing;
+
+/* The closing is accepted and gives that, and the hours are those expected. */
+#define CHECK_CLOSED(a, ...)                             \
+    do {                                                 \
+        closing given = __VA_ARGS__;                     \
+        CHECK(a.refusal == SALLOWBINGO_REFUSAL_NONE);    \
+        CHECK(a.figures.ground == given.ground);         \
+        CHECK(a.figures.volume.kwh == given.volume);     \
+        CHECK(a.figures.sum.kwh == given.c);             \
+        CHECK(a.figures.days == given.d);                \
+        CHECK(a.figures.capacity.kw == given.capacity);  \
+        CHECK(a.after.total.kwh == given.total);         \
+        CHECK(a.after.service.run == given.run);         \
+        CHECK(handed_out());                             \
+    } while (0)
+
 /* A row of the store holds those words. */
 static int row_holds(size_t row, const uint32_t *hours) {
     return memcmp(store + SALLOWBINGO_ROW * row, hours, SALLOWBINGO_ROW * sizeof *hours) == 0;
@@ -106,15 +127,8 @@ static record january(record r) {
     mark(0, 8, 4, 9);
     fill(expected, 31, 2, 2);
     answer a = close_month(r, 31);
-    CHECK(a.refusal == SALLOWBINGO_REFUSAL_NONE);
-    CHECK(a.figures.ground == SALLOWBINGO_GROUND_POWER);
-    CHECK(a.figures.volume.kwh == 1488);
-    CHECK(a.figures.sum.kwh == 2);
-    CHECK(a.figures.days == 1);
-    CHECK(a.figures.capacity.kw == 2);
-    CHECK(a.after.total.kwh == 1488);
-    CHECK(a.after.service.run == 1);
-    CHECK(handed_out());
+    CHECK_CLOSED(a, (closing){SALLOWBINGO_GROUND_POWER,
+                             .volume = 1488, .c = 2, .d = 1, .capacity = 2, .total = 1488, .run = 1});
     return a.after;
 }
 
@@ -134,15 +148,8 @@ static record february(record r) {
     CHECK(refused(sallowbingo_read_billing_hours(r, store, WORDS, metered, 672), SALLOWBINGO_REFUSAL_ALREADY_GIVEN, r));
     for (size_t day = 0; day < 20; day++) mark(day, 8, 4, 9);
     answer a = close_month(r, 28);
-    CHECK(a.refusal == SALLOWBINGO_REFUSAL_NONE);
-    CHECK(a.figures.ground == SALLOWBINGO_GROUND_BILLING_HOURS);
-    CHECK(a.figures.volume.kwh == 738);
-    CHECK(a.figures.sum.kwh == 70);
-    CHECK(a.figures.days == 20);
-    CHECK(a.figures.capacity.kw == 4);
-    CHECK(a.after.total.kwh == 2226);
-    CHECK(a.after.service.run == 0);
-    CHECK(handed_out());
+    CHECK_CLOSED(a, (closing){SALLOWBINGO_GROUND_BILLING_HOURS,
+                             .volume = 738, .c = 70, .d = 20, .capacity = 4, .total = 2226, .run = 0});
     return a.after;
 }
 
@@ -159,15 +166,8 @@ static record march(record r) {
     CHECK(refused(close_month(r, 31), SALLOWBINGO_REFUSAL_CAPACITY_HOURS, r));
     mark(0, 8, 4, 9), mark(30, 8, 4, 9);
     answer a = close_month(r, 31);
-    CHECK(a.refusal == SALLOWBINGO_REFUSAL_NONE);
-    CHECK(a.figures.ground == SALLOWBINGO_GROUND_PAST);
-    CHECK(a.figures.volume.kwh == 816);
-    CHECK(a.figures.sum.kwh == 16);
-    CHECK(a.figures.days == 2);
-    CHECK(a.figures.capacity.kw == 8);
-    CHECK(a.after.total.kwh == 3042);
-    CHECK(a.after.service.run == 1);
-    CHECK(handed_out());
+    CHECK_CLOSED(a, (closing){SALLOWBINGO_GROUND_PAST,
+                             .volume = 816, .c = 16, .d = 2, .capacity = 8, .total = 3042, .run = 1});
     return a.after;
 }
 
@@ -192,15 +192,8 @@ static record april(record r) {
     expected[9] = 7;
     for (size_t day = 0; day < 3; day++) mark(day, 8, 4, 9);
     answer a = close_month(r, 30);
-    CHECK(a.refusal == SALLOWBINGO_REFUSAL_NONE);
-    CHECK(a.figures.ground == SALLOWBINGO_GROUND_CONTROL_BY_PAST);
-    CHECK(a.figures.volume.kwh == 395);
-    CHECK(a.figures.sum.kwh == 11);
-    CHECK(a.figures.days == 3);
-    CHECK(a.figures.capacity.kw == 4);
-    CHECK(a.after.total.kwh == 3437);
-    CHECK(a.after.service.run == 2);
-    CHECK(handed_out());
+    CHECK_CLOSED(a, (closing){SALLOWBINGO_GROUND_CONTROL_BY_PAST,
+                             .volume = 395, .c = 11, .d = 3, .capacity = 4, .total = 3437, .run = 2});
     return a.after;
 }
 
@@ -222,15 +215,8 @@ static record may(record r) {
     mark(0, 8, 4, 9), mark(1, 8, 4, 9);
     by_february(expected, 31);
     answer a = close_month(r, 31);
-    CHECK(a.refusal == SALLOWBINGO_REFUSAL_NONE);
-    CHECK(a.figures.ground == SALLOWBINGO_GROUND_CONTROL_BY_PAST_GREATER);
-    CHECK(a.figures.volume.kwh == 816);
-    CHECK(a.figures.sum.kwh == 16);
-    CHECK(a.figures.days == 2);
-    CHECK(a.figures.capacity.kw == 8);
-    CHECK(a.after.total.kwh == 4253);
-    CHECK(a.after.service.run == 3);
-    CHECK(handed_out());
+    CHECK_CLOSED(a, (closing){SALLOWBINGO_GROUND_CONTROL_BY_PAST_GREATER,
+                             .volume = 816, .c = 16, .d = 2, .capacity = 8, .total = 4253, .run = 3});
     return a.after;
 }
 
@@ -251,15 +237,8 @@ static record june(record r) {
         for (size_t h = 8; h < 12; h++) expected[DAY * day + h] = 2;
     }
     answer a = close_month(r, 30);
-    CHECK(a.refusal == SALLOWBINGO_REFUSAL_NONE);
-    CHECK(a.figures.ground == SALLOWBINGO_GROUND_CONTROL_PEAK_RULE);
-    CHECK(a.figures.volume.kwh == 390);
-    CHECK(a.figures.sum.kwh == 10);
-    CHECK(a.figures.days == 5);
-    CHECK(a.figures.capacity.kw == 2);
-    CHECK(a.after.total.kwh == 4643);
-    CHECK(a.after.service.run == 4);
-    CHECK(handed_out());
+    CHECK_CLOSED(a, (closing){SALLOWBINGO_GROUND_CONTROL_PEAK_RULE,
+                             .volume = 390, .c = 10, .d = 5, .capacity = 2, .total = 4643, .run = 4});
     return a.after;
 }
 
@@ -278,15 +257,8 @@ static record july(record r) {
     CHECK(refused(sallowbingo_read_billing_hours(r, store, WORDS, metered, 744), SALLOWBINGO_REFUSAL_BILLING_BARRED, r));
     fill(expected, 31, 2, 2);
     answer a = close_month(r, 31);
-    CHECK(a.refusal == SALLOWBINGO_REFUSAL_NONE);
-    CHECK(a.figures.ground == SALLOWBINGO_GROUND_POWER);
-    CHECK(a.figures.volume.kwh == 1488);
-    CHECK(a.figures.sum.kwh == 0);
-    CHECK(a.figures.days == 0);
-    CHECK(a.figures.capacity.kw == 0);
-    CHECK(a.after.total.kwh == 6131);
-    CHECK(a.after.service.run == 5);
-    CHECK(handed_out());
+    CHECK_CLOSED(a, (closing){SALLOWBINGO_GROUND_POWER,
+                             .volume = 1488, .c = 0, .d = 0, .capacity = 0, .total = 6131, .run = 5});
     return a.after;
 }
 
@@ -303,15 +275,8 @@ static record august(record r) {
     mark(0, 9, 1, 9), mark(28, 9, 1, 9), mark(30, 9, 1, 9);
     by_february(expected, 31);
     answer a = close_month(r, 31);
-    CHECK(a.refusal == SALLOWBINGO_REFUSAL_NONE);
-    CHECK(a.figures.ground == SALLOWBINGO_GROUND_PAST);
-    CHECK(a.figures.volume.kwh == 816);
-    CHECK(a.figures.sum.kwh == 19);
-    CHECK(a.figures.days == 3);
-    CHECK(a.figures.capacity.kw == 6);
-    CHECK(a.after.total.kwh == 6947);
-    CHECK(a.after.service.run == 1);
-    CHECK(handed_out());
+    CHECK_CLOSED(a, (closing){SALLOWBINGO_GROUND_PAST,
+                             .volume = 816, .c = 19, .d = 3, .capacity = 6, .total = 6947, .run = 1});
     return a.after;
 }
 
@@ -323,15 +288,8 @@ static record september(record r) {
     CHECK(accepted(sallowbingo_read_billing_hours(r, store, WORDS, expected, 720), &r));
     mark(4, 8, 4, 9), mark(5, 8, 4, 9);
     answer a = close_month(r, 30);
-    CHECK(a.refusal == SALLOWBINGO_REFUSAL_NONE);
-    CHECK(a.figures.ground == SALLOWBINGO_GROUND_BILLING_HOURS);
-    CHECK(a.figures.volume.kwh == 0);
-    CHECK(a.figures.sum.kwh == 0);
-    CHECK(a.figures.days == 2);
-    CHECK(a.figures.capacity.kw == 0);
-    CHECK(a.after.total.kwh == 6947);
-    CHECK(a.after.service.run == 0);
-    CHECK(handed_out());
+    CHECK_CLOSED(a, (closing){SALLOWBINGO_GROUND_BILLING_HOURS,
+                             .volume = 0, .c = 0, .d = 2, .capacity = 0, .total = 6947, .run = 0});
     return a.after;
 }
 
@@ -350,15 +308,8 @@ static record october(record r) {
                   SALLOWBINGO_REFUSAL_BUFFER_LENGTH, r));
     fill(expected, 31, 0, 1);
     answer a = close_month(r, 31);
-    CHECK(a.refusal == SALLOWBINGO_REFUSAL_NONE);
-    CHECK(a.figures.ground == SALLOWBINGO_GROUND_CONTROL_BY_PAST);
-    CHECK(a.figures.volume.kwh == 372);
-    CHECK(a.figures.sum.kwh == 2);
-    CHECK(a.figures.days == 3);
-    CHECK(a.figures.capacity.kw == 1);
-    CHECK(a.after.total.kwh == 7319);
-    CHECK(a.after.service.run == 1);
-    CHECK(handed_out());
+    CHECK_CLOSED(a, (closing){SALLOWBINGO_GROUND_CONTROL_BY_PAST,
+                             .volume = 372, .c = 2, .d = 3, .capacity = 1, .total = 7319, .run = 1});
     return a.after;
 }
 
@@ -377,15 +328,8 @@ static record november(record r) {
     CHECK(accepted(sallowbingo_permit(r, store, WORDS), &r));
     mark(10, 16, 8, 20), mark(11, 16, 8, 20);
     answer a = close_month(r, 30);
-    CHECK(a.refusal == SALLOWBINGO_REFUSAL_NONE);
-    CHECK(a.figures.ground == SALLOWBINGO_GROUND_BILLING_HOURS);
-    CHECK(a.figures.volume.kwh == 10440);
-    CHECK(a.figures.sum.kwh == 21);
-    CHECK(a.figures.days == 2);
-    CHECK(a.figures.capacity.kw == 11);
-    CHECK(a.after.total.kwh == 17759);
-    CHECK(a.after.service.run == 0);
-    CHECK(handed_out());
+    CHECK_CLOSED(a, (closing){SALLOWBINGO_GROUND_BILLING_HOURS,
+                             .volume = 10440, .c = 21, .d = 2, .capacity = 11, .total = 17759, .run = 0});
     return a.after;
 }
 
@@ -403,15 +347,8 @@ static record december(record r) {
     CHECK(refused(close_month(over, 31), SALLOWBINGO_REFUSAL_CALENDAR_OVER, over));
     mark(0, 8, 4, 9), mark(30, 8, 4, 9);
     answer a = close_month(r, 31);
-    CHECK(a.refusal == SALLOWBINGO_REFUSAL_NONE);
-    CHECK(a.figures.ground == SALLOWBINGO_GROUND_PAST);
-    CHECK(a.figures.volume.kwh == 10992);
-    CHECK(a.figures.sum.kwh == 23);
-    CHECK(a.figures.days == 2);
-    CHECK(a.figures.capacity.kw == 12);
-    CHECK(a.after.total.kwh == 28751);
-    CHECK(a.after.service.run == 1);
-    CHECK(handed_out());
+    CHECK_CLOSED(a, (closing){SALLOWBINGO_GROUND_PAST,
+                             .volume = 10992, .c = 23, .d = 2, .capacity = 12, .total = 28751, .run = 1});
     return a.after;
 }
 
