@@ -29,9 +29,12 @@ $(archive): $(compiled)
 	cp $< $@
 
 # An archive that is there is installed as it is, so that an installation needs no kit; an old one is told.
+ifeq ($(wildcard $(compiled)),)
+install: $(compiled)
+endif
 install:
-	@if [ ! -f $(compiled) ]; then $(MAKE) $(compiled); \
-	elif ! $(MAKE) -q $(compiled); then echo "note: the archive is older than a source; make builds it anew"; fi
+	@case "$(PREFIX)" in /*) ;; *) echo "PREFIX is a whole path, from / on"; exit 2 ;; esac
+	@$(MAKE) -q $(compiled) || echo "note: the archive is older than a source; make builds it anew"
 	$(INSTALL) -d "$(DESTDIR)$(INCLUDEDIR)" "$(DESTDIR)$(LIBDIR)/pkgconfig"
 	$(INSTALL) -m 644 include/sallowbingo.h "$(DESTDIR)$(INCLUDEDIR)/sallowbingo.h"
 	$(INSTALL) -m 644 $(compiled) "$(DESTDIR)$(LIBDIR)/libsallowbingo.a"

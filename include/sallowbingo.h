@@ -3,7 +3,8 @@
  *
  * Every function ends on every input and needs no check beforehand: a value
  * outside the limits gives the refusal named here. Nothing is allocated and no
- * state is kept but the record and the store, which are the caller's.
+ * state is kept but the record and the store, which are the caller's, so calls on
+ * different points may run at the same time.
  *
  * Volumes are whole kWh and powers whole kW. 'Document 01' is the specification;
  * T is the hours of the open month, 24 times its days. */
@@ -126,10 +127,11 @@ typedef enum sallowbingo_refusal {
 
     /* The store is not SALLOWBINGO_STORE words. */
     SALLOWBINGO_REFUSAL_STORE_LENGTH = 1,
-    /* The record is not open, or no record that a point can have: a field is
-     * outside its limits or not 0 where it has to be, a date is after the open
-     * month, the latest past month is not in its row, or a reading is given of a
-     * form that the contract lacks or with too large a volume. */
+    /* The record is not open, a field is outside its limits or not 0 where it
+     * has to be, the last fault is after the open month, a row's month or the
+     * latest past is not before it, the latest past month is not in its row, or
+     * a reading is given of a form that the contract lacks or with too large a
+     * volume. */
     SALLOWBINGO_REFUSAL_RECORD = 2,
     /* The calendar is over: January 3000 is open. */
     SALLOWBINGO_REFUSAL_CALENDAR_OVER = 3,
@@ -193,7 +195,8 @@ typedef enum sallowbingo_refusal {
 } sallowbingo_refusal;
 
 /* STRUCTS. Flags are 1 for yes and 0 for no, and any other value is outside the
- * limits. Months in a record are numbers, year * 12 + month, and 0 for none. */
+ * limits. The last fault and the latest past are numbers of months, year * 12 +
+ * month, and 0 for none. */
 
 /* A power in kW. */
 typedef struct {
@@ -274,7 +277,8 @@ typedef struct {
 } sallowbingo_figures;
 
 /* The number of the refusal, a sallowbingo_refusal; the record after the call,
- * which is the record given where the call was refused; and the figures. */
+ * which is the record given where the call was refused, and zeros where that was
+ * an opening; and the figures. */
 typedef struct {
     uint32_t refusal;
     sallowbingo_record after;
@@ -398,7 +402,7 @@ uint32_t sallowbingo_month_days(uint64_t year, uint64_t month);
 /* Opens a point in the month of date, in service, with all else 0 or missing,
  * and clears the store. On basis 1 or 2 the power asked for is the agreed one;
  * on basis 2 it is shared in list order by the currents of the points' cables,
- * currents has that many points, and place is the point's own, counted from 0.
+ * one word a point, and place is the point's own in that list, counted from 0.
  * The other bases don't look at currents and place.
  * Refusals: 1 STORE_LENGTH, 10 OPENING_MONTH, 11 METER_KIND, 12 BASIS,
  * 13 CABLE_VALUE, 14 CURRENTS. */
@@ -413,7 +417,8 @@ sallowbingo_answer sallowbingo_read_billing_hours(sallowbingo_record record, uin
                                                   const uint32_t *hours, size_t count);
 
 /* Takes this month's hours of an interval control meter into row 13, once a
- * month; count is T. It is taken out of service and with two denials too.
+ * month; count is T. It may also come while the point is out of service or has
+ * two denials.
  * Refusals: 1 to 3, 20 NO_SUCH_METER, 22 ALREADY_GIVEN, 23 HOUR_COUNT,
  * 24 TOO_LARGE. */
 sallowbingo_answer sallowbingo_read_control_hours(sallowbingo_record record, uint32_t *store, size_t words,
@@ -425,8 +430,8 @@ sallowbingo_answer sallowbingo_read_control_hours(sallowbingo_record record, uin
 sallowbingo_answer sallowbingo_read_billing_volume(sallowbingo_record record, const uint32_t *store, size_t words,
                                                    sallowbingo_kwh volume);
 
-/* Takes this month's volume of an integral control meter, once a month. It is
- * taken out of service and with two denials too.
+/* Takes this month's volume of an integral control meter, once a month. It may
+ * also come while the point is out of service or has two denials.
  * Refusals: 1 to 3, 20 NO_SUCH_METER, 22 ALREADY_GIVEN, 24 TOO_LARGE. */
 sallowbingo_answer sallowbingo_read_control_volume(sallowbingo_record record, const uint32_t *store, size_t words,
                                                    sallowbingo_kwh volume);
@@ -459,13 +464,13 @@ sallowbingo_answer sallowbingo_deny(sallowbingo_record record, uint32_t *store, 
 sallowbingo_answer sallowbingo_permit(sallowbingo_record record, const uint32_t *store, size_t words);
 
 /* Closes the open month and opens the next; after December 2999 that is January
- * 3000, and every later call but an opening is refused with 3. marks has count
- * bytes, which is T, one SALLOWBINGO_MARK_ an hour. hours has room words, which
- * is SALLOWBINGO_ROW; it gets the month's hours, and 0 from T on. The figures
- * are ground, month volume, capacity, C (sum) and d (days). On grounds 1 and 2
- * the hours become the month's row and the latest past, and the run is 0;
- * otherwise the run grows by 1. The total grows by the month volume, and this
- * month's readings are cleared.
+ * 3000, and every later call but an opening is refused, with 3 where neither 1
+ * nor 2 applies. marks has count bytes, which is T, one SALLOWBINGO_MARK_ an
+ * hour. hours has room words, which is SALLOWBINGO_ROW; it gets the month's
+ * hours, and 0 from T on. The figures are ground, month volume, capacity, C (sum)
+ * and d (days). On grounds 1 and 2 the hours become the month's row and the
+ * latest past, and the run is 0; otherwise the run grows by 1. The total grows by
+ * the month volume, and this month's readings are cleared.
  * Refusals: 1 to 3, 40 MARK_COUNT, 41 MARK, 42 PEAK_HOURS, 43 CAPACITY_HOURS,
  * 44 BUFFER_LENGTH, 45 STORE_WORD. */
 sallowbingo_answer sallowbingo_close(sallowbingo_record record, uint32_t *store, size_t words, const uint8_t *marks,

@@ -12,6 +12,9 @@ macro_rules! layout {
     )*};
 }
 
+// Lengths are lent as size_t, which has 64 bits.
+const _: () = assert!(size_of::<usize>() == 8);
+
 layout! {
     Kw 4 { 0 0 }
     Kwh 8 { 0 0 }

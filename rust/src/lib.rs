@@ -15,7 +15,7 @@
 //! let contract = Contract {
 //!     billing: meter::INTERVAL,
 //!     control: meter::INTEGRAL,
-//!     basis: basis::AGREED_POWER,
+//!     basis: basis::AGREED,
 //!     power: Kw(100),
 //!     ..Contract::default()
 //! };
@@ -30,7 +30,7 @@
 //!
 //! // One mark an hour: hour 10 is a planned peak and the first day's capacity hour.
 //! let mut marks = [mark::ORDINARY; 24 * 28];
-//! marks[10] = mark::PEAK_AND_CAPACITY;
+//! marks[10] = mark::BOTH;
 //! let mut hours = [0; ROW];
 //! let closing = point.close(&mut store, &marks, &mut hours)?;
 //!
@@ -53,13 +53,13 @@
 #![deny(unsafe_code)]
 
 mod call;
-#[cfg(target_arch = "x86_64")]
 mod layout;
 mod numbers;
 mod raw;
 mod record;
 mod refusal;
 
+pub use numbers::FIELDS;
 pub use raw::{Cable, Contract, Date, Figures as Closing, Kw, Kwh};
 pub use record::{open, Record};
 pub use refusal::Refusal;
@@ -73,7 +73,7 @@ pub const ROW: usize = 744;
 /// The kinds of a meter, for a contract.
 pub mod meter {
     /// No meter; a control meter only.
-    pub const NO_METER: u32 = 0;
+    pub const NONE: u32 = 0;
     /// An interval meter, which is read by the hour.
     pub const INTERVAL: u32 = 1;
     /// An integral meter, of which only the month's volume is read.
@@ -83,9 +83,9 @@ pub mod meter {
 /// What a point's power is based on, for a contract.
 pub mod basis {
     /// An agreed power.
-    pub const AGREED_POWER: u32 = 1;
+    pub const AGREED: u32 = 1;
     /// A share of a power that is agreed for several points.
-    pub const SHARED_POWER: u32 = 2;
+    pub const SHARED: u32 = 2;
     /// No power, but a cable.
     pub const CABLE: u32 = 3;
 }
@@ -97,7 +97,7 @@ pub mod reason {
     /// Its loss.
     pub const LOSS: u32 = 2;
     /// Its verification interval is over.
-    pub const VERIFICATION_OVER: u32 = 3;
+    pub const VERIFICATION: u32 = 3;
     /// It was taken down.
     pub const TAKEN_DOWN: u32 = 4;
 }
@@ -105,9 +105,9 @@ pub mod reason {
 /// The sources of a neighbour reading.
 pub mod source {
     /// The neighbour's billing meter.
-    pub const BILLING_METER: u32 = 1;
+    pub const BILLING: u32 = 1;
     /// The neighbour's control meter.
-    pub const CONTROL_METER: u32 = 2;
+    pub const CONTROL: u32 = 2;
 }
 
 /// The marks of an hour, for a closing.
@@ -119,7 +119,7 @@ pub mod mark {
     /// A capacity hour; a day has at most one, and exactly one if it has peak hours.
     pub const CAPACITY: u8 = 2;
     /// Both.
-    pub const PEAK_AND_CAPACITY: u8 = 3;
+    pub const BOTH: u8 = 3;
 }
 
 /// The volume that a cable can carry in some hours, rounded half up.

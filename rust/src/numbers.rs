@@ -3,7 +3,7 @@
 use crate::raw::{Cable, Contract, Date, Kw, Kwh, Past, Reading, Readings, Record, Service};
 use core::array::IntoIter;
 
-/// The fields of a record.
+/// The numbers that a record is made of.
 pub const FIELDS: usize = 37;
 
 pub fn numbers(record: &Record) -> [u64; FIELDS] {

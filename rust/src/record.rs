@@ -1,7 +1,8 @@
 //! A point: its record, and the calls on it.
 
 use crate::raw::{self, Answer, Contract, Date, Figures as Closing, Kwh};
-use crate::{call, month_days, numbers, Refusal};
+use crate::numbers::{self, FIELDS};
+use crate::{call, month_days, Refusal};
 
 /// The record of a delivery point.
 ///
@@ -13,7 +14,7 @@ pub struct Record(pub(crate) raw::Record);
 
 /// Opens a point on its contract and in its first month, and clears the store.
 ///
-/// On [`basis::AGREED_POWER`](crate::basis::AGREED_POWER) and [`basis::SHARED_POWER`](crate::basis::SHARED_POWER) the
+/// On [`basis::AGREED`](crate::basis::AGREED) and [`basis::SHARED`](crate::basis::SHARED) the
 /// contract's power is the agreed one. On the second it is shared by the currents of the points' cables, and `place` is
 /// the point's place in that list, counted from 0. What the basis does not use is ignored. Refused with 1 and 10 to 14.
 pub fn open(
@@ -67,14 +68,14 @@ impl Record {
 
 /// The reports of the network firm.
 impl Record {
-    /// Takes the billing meter out of service, for a reason of [`reason`](crate::reason), and discards this month's
+    /// Takes the point out of service, for a reason of [`reason`](crate::reason), and discards this month's
     /// billing reading. A fault or a loss at most 12 months after an earlier one sets the run to 0. Refused with 1 to
     /// 3, 30 and 31.
     pub fn fail(&mut self, store: &mut [u32], reason: u32) -> Result<(), Refusal> {
         self.keep(call::fail(self.0, store, reason))
     }
 
-    /// Takes the billing meter back into service. Refused with 1 to 3 and 32.
+    /// Takes the point back into service. Refused with 1 to 3 and 32.
     pub fn admit(&mut self, store: &[u32]) -> Result<(), Refusal> {
         self.keep(call::admit(self.0, store))
     }
@@ -134,7 +135,7 @@ impl Record {
         self.0.service.run
     }
 
-    /// Whether the billing meter is in service.
+    /// Whether the point is in service.
     pub fn in_service(&self) -> bool {
         self.0.service.serving == 1
     }
@@ -155,22 +156,22 @@ impl Record {
     /// each of the twelve calendar months holds, and the latest past month; 1 or 0 for given and the volume of the
     /// billing, control, first and second neighbour reading; the total. Months of faults and of the past are
     /// year × 12 + month, or 0 for none.
-    pub fn numbers(&self) -> [u64; 37] {
+    pub fn numbers(&self) -> [u64; FIELDS] {
         numbers::numbers(&self.0)
     }
 
     /// The record of such numbers, or none if one of them does not fit its field of 32 bits.
     ///
-    /// Any other numbers make a record, and nothing is checked here: the calls refuse a record that no point can have
-    /// with [`Refusal::Record`](crate::Refusal::Record).
+    /// Any other numbers make a record, and nothing is checked here: the calls refuse a record outside the limits of
+    /// document 01 with [`Refusal::Record`](crate::Refusal::Record).
     ///
     /// ```
     /// use sallowbingo::{basis, meter, open, Contract, Date, Kw, Record, Refusal, STORE};
     ///
     /// let contract = Contract {
     ///     billing: meter::INTERVAL,
-    ///     control: meter::NO_METER,
-    ///     basis: basis::AGREED_POWER,
+    ///     control: meter::NONE,
+    ///     basis: basis::AGREED,
     ///     power: Kw(100),
     ///     ..Contract::default()
     /// };
@@ -189,7 +190,7 @@ impl Record {
     /// assert_eq!(Record::from_numbers(numbers), None);
     /// # Ok::<(), Refusal>(())
     /// ```
-    pub fn from_numbers(numbers: [u64; 37]) -> Option<Record> {
+    pub fn from_numbers(numbers: [u64; FIELDS]) -> Option<Record> {
         numbers::from_numbers(numbers).map(Record)
     }
 }

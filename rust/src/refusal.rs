@@ -21,7 +21,7 @@ use core::fmt;
 pub enum Refusal {
     /// The store has not 10,416 words.
     StoreLength = 1,
-    /// The record is not open, or is one that no point can have.
+    /// The record is not open, or outside the limits of document 01.
     Record = 2,
     /// The calendar is over: the open month is January 3000.
     CalendarOver = 3,
@@ -40,7 +40,7 @@ pub enum Refusal {
 
     /// At a reading: the contract has no such meter, or one of the other form, or the neighbour's source is not 1 or 2.
     NoSuchMeter = 20,
-    /// At a billing reading: the meter is out of service, or access was denied twice.
+    /// At a billing reading: the point is out of service, or access was denied twice.
     BillingBarred = 21,
     /// At a reading: this month's is already given.
     AlreadyGiven = 22,
@@ -49,11 +49,11 @@ pub enum Refusal {
     /// At a reading: an hour above 1,000,000, or a volume above 1,000,000 for each hour of the month.
     TooLarge = 24,
 
-    /// At a failure: the meter is out of service already.
+    /// At a failure: the point is out of service already.
     OutOfService = 30,
     /// At a failure: the reason is not 1 to 4.
     Reason = 31,
-    /// At an admission: the meter is in service.
+    /// At an admission: the point is in service.
     InService = 32,
     /// At a denial: there are two already.
     TwoDenials = 33,
@@ -117,21 +117,21 @@ impl Refusal {
     pub const fn sentence(self) -> &'static str {
         match self {
             Refusal::StoreLength => "the store has not 10,416 words",
-            Refusal::Record => "the record is not open, or is one that no point can have",
+            Refusal::Record => "the record is not open, or outside the limits of document 01",
             Refusal::CalendarOver => "the calendar is over",
             Refusal::OpeningMonth => "the opening month is not in January 2014 to December 2999",
-            Refusal::MeterKind => "a meter is of no known kind",
+            Refusal::MeterKind => "the billing meter is not of kind 1 or 2, or the control meter not of kind 0 to 2",
             Refusal::Basis => "the basis is not 1 to 3, or its power is not 1 to 1,000,000",
             Refusal::CableValue => "a value of the cable is outside its limits",
             Refusal::Currents => "the list of currents is empty, too long or holds a wrong current, or lacks the place",
-            Refusal::NoSuchMeter => "the point has no meter for such a reading",
-            Refusal::BillingBarred => "the billing meter is out of service, or access was denied twice",
+            Refusal::NoSuchMeter => "the point has no meter for such a reading, or the neighbour's source is not 1 or 2",
+            Refusal::BillingBarred => "the point is out of service, or access was denied twice",
             Refusal::AlreadyGiven => "the reading is already given this month",
             Refusal::HourCount => "the reading has not as many hours as the month",
             Refusal::TooLarge => "an hour is above 1,000,000, or a volume above that for each hour of the month",
-            Refusal::OutOfService => "the meter is out of service already",
+            Refusal::OutOfService => "the point is out of service already",
             Refusal::Reason => "the reason of the failure is not 1 to 4",
-            Refusal::InService => "the meter is in service already",
+            Refusal::InService => "the point is in service already",
             Refusal::TwoDenials => "access was denied twice already",
             Refusal::NoDenial => "access was not denied",
             Refusal::MarkCount => "there are not as many marks as the month has hours",

@@ -31,6 +31,7 @@ use dice::Dice;
 use history::Plan;
 use sides::Sides;
 use std::process::exit;
+use std::sync::atomic::{AtomicBool, Ordering};
 use std::time::Instant;
 use tally::Tally;
 
@@ -98,12 +99,15 @@ fn play_one(seed: u64, place: u64, tally: &mut Tally) -> Result<(), Failure> {
     played.map_err(|how| Failure { steps, how, calls: tally.calls, place })
 }
 
-/// Histories `first`, `first + every` and so on, until the calls are made.
+/// Whether a difference was found, so that the other threads need not go on.
+static FOUND: AtomicBool = AtomicBool::new(false);
+
+/// Histories `first`, `first + every` and so on, until the calls are made or another thread has found a difference.
 fn play_many(seed: u64, calls: u64, first: u64, every: u64) -> Result<Tally, Failure> {
     let mut tally = Tally::new();
     let mut place = first;
-    while tally.calls < calls {
-        play_one(seed, place, &mut tally)?;
+    while tally.calls < calls && !FOUND.load(Ordering::Relaxed) {
+        play_one(seed, place, &mut tally).inspect_err(|_| FOUND.store(true, Ordering::Relaxed))?;
         place += every;
     }
     Ok(tally)

@@ -40,8 +40,9 @@ pub struct Sides {
     pub record: Record,
     pub store: Vec<u32>,
     hours: Vec<u32>,
-    /// The store that the last accepted call left.
-    accepted: Vec<u32>,
+    /// The store and the hour buffer that the last accepted call left.
+    accepted_store: Vec<u32>,
+    accepted_hours: Vec<u32>,
     list: Option<List>,
 }
 
@@ -69,7 +70,8 @@ impl Sides {
             kernel_store: store.clone(),
             kernel_hours: hours.clone(),
             record: Record::default(),
-            accepted: store.clone(),
+            accepted_store: store.clone(),
+            accepted_hours: hours.clone(),
             store,
             hours,
             list: None,
@@ -109,7 +111,7 @@ impl Sides {
             self.store[*start..start + words.len()].copy_from_slice(words);
         }
         self.kernel_store.copy_from_slice(&self.store);
-        self.accepted.copy_from_slice(&self.store);
+        self.accepted_store.copy_from_slice(&self.store);
         self.list = None;
     }
 
@@ -121,7 +123,7 @@ impl Sides {
         same("record", answer.after, kernel::as_raw(&self.record))?;
         same("figures", answer.figures, Figures::default())?;
         self.kernel = answer.after;
-        self.compare_stores(number)?;
+        self.compare_words(number)?;
         self.list =
             (number == 0).then(|| List { book: Book::new(opening), handed: 0, volumes: 0, rows: vec![0; 12 * ROW] });
         Ok(number)
@@ -140,19 +142,21 @@ impl Sides {
         let closed = expected.ok().flatten();
         same("figures", answer.figures, closed.map_or(Figures::default(), figures))?;
         self.kernel = answer.after;
-        self.compare_stores(number)?;
-        same_words("hour buffer", &self.kernel_hours, &self.hours)?;
+        self.compare_words(number)?;
         self.follow(call, number == 0, answer.figures)?;
         Ok((number, closed))
     }
 
-    /// The stores agree, and a refused call left the kernel's as it was.
-    fn compare_stores(&mut self, number: u32) -> Result<(), String> {
+    /// Stores and hour buffers agree, and a refused call left the kernel's as they were.
+    fn compare_words(&mut self, number: u32) -> Result<(), String> {
         same_words("store", &self.kernel_store, &self.store)?;
+        same_words("hour buffer", &self.kernel_hours, &self.hours)?;
         if number != 0 {
-            return same_words("store after a refusal", &self.kernel_store, &self.accepted);
+            same_words("store after a refusal", &self.kernel_store, &self.accepted_store)?;
+            return same_words("hour buffer after a refusal", &self.kernel_hours, &self.accepted_hours);
         }
-        self.accepted.copy_from_slice(&self.kernel_store);
+        self.accepted_store.copy_from_slice(&self.kernel_store);
+        self.accepted_hours.copy_from_slice(&self.kernel_hours);
         Ok(())
     }
 

@@ -14,7 +14,7 @@ const NO_CABLE: Cable = Cable { amperes: 0, volts: 0, cosine: 0, phases: 0 };
 const AGREED: Contract = Contract {
     billing: meter::INTERVAL,
     control: meter::INTEGRAL,
-    basis: basis::AGREED_POWER,
+    basis: basis::AGREED,
     power: Kw(10),
     cable: NO_CABLE,
 };
@@ -64,5 +64,5 @@ fn day<T: Copy>(nine: T, ten: T, other: T) -> [T; 24] {
 
 /// A working day: hours 9 and 10 are peaks, and hour 9 is the capacity hour.
 fn working_day() -> [u8; 24] {
-    day(mark::PEAK_AND_CAPACITY, mark::PEAK, mark::ORDINARY)
+    day(mark::BOTH, mark::PEAK, mark::ORDINARY)
 }

@@ -21,8 +21,8 @@ fn full() -> Point {
     p.record.deny(&mut p.store).unwrap();
     p.record.read_billing_hours(&mut p.store, &january).unwrap();
     p.record.read_control_volume(&p.store, Kwh(500_000_000)).unwrap();
-    p.record.read_neighbour(&p.store, source::BILLING_METER, Kwh(11)).unwrap();
-    p.record.read_neighbour(&p.store, source::CONTROL_METER, Kwh(22)).unwrap();
+    p.record.read_neighbour(&p.store, source::BILLING, Kwh(11)).unwrap();
+    p.record.read_neighbour(&p.store, source::CONTROL, Kwh(22)).unwrap();
     p
 }
 

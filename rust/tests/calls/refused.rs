@@ -21,8 +21,8 @@ fn read() -> Point {
     let mut p = interval();
     p.record.read_billing_hours(&mut p.store, &[6; 744]).unwrap();
     p.record.read_control_volume(&p.store, Kwh(800)).unwrap();
-    p.record.read_neighbour(&p.store, source::BILLING_METER, Kwh(11)).unwrap();
-    p.record.read_neighbour(&p.store, source::CONTROL_METER, Kwh(22)).unwrap();
+    p.record.read_neighbour(&p.store, source::BILLING, Kwh(11)).unwrap();
+    p.record.read_neighbour(&p.store, source::CONTROL, Kwh(22)).unwrap();
     p
 }
 
@@ -54,7 +54,7 @@ fn unread() -> Point {
 
 /// A point without a control meter.
 fn alone() -> Point {
-    Point::open(Contract { control: meter::NO_METER, ..AGREED }, 2023, 1)
+    Point::open(Contract { control: meter::NONE, ..AGREED }, 2023, 1)
 }
 
 /// A point in January 3000.
@@ -80,7 +80,7 @@ const METHODS: [Call; 10] = [
     |p| p.record.read_control_hours(&mut p.store, &[6; 744]),
     |p| p.record.read_billing_volume(&p.store, Kwh(800)),
     |p| p.record.read_control_volume(&p.store, Kwh(800)),
-    |p| p.record.read_neighbour(&p.store, source::BILLING_METER, Kwh(11)),
+    |p| p.record.read_neighbour(&p.store, source::BILLING, Kwh(11)),
     |p| p.record.fail(&mut p.store, reason::FAULT),
     |p| p.record.admit(&p.store),
     |p| p.record.deny(&mut p.store),
@@ -102,7 +102,7 @@ const OPENING: [(Refusal, Call); 17] = [
     (Refusal::OpeningMonth, |p| ask_in(p, 2013, 12)),
     (Refusal::OpeningMonth, |p| ask_in(p, 3000, 1)),
     (Refusal::OpeningMonth, |p| ask_in(p, 2023, 13)),
-    (Refusal::MeterKind, |p| ask(p, Contract { billing: meter::NO_METER, ..AGREED }, &[], 0)),
+    (Refusal::MeterKind, |p| ask(p, Contract { billing: meter::NONE, ..AGREED }, &[], 0)),
     (Refusal::MeterKind, |p| ask(p, Contract { control: 3, ..AGREED }, &[], 0)),
     (Refusal::Basis, |p| ask(p, Contract { basis: 4, ..AGREED }, &[], 0)),
     (Refusal::Basis, |p| ask(p, Contract { power: Kw(0), ..AGREED }, &[], 0)),
@@ -110,10 +110,10 @@ const OPENING: [(Refusal, Call); 17] = [
     (Refusal::CableValue, |p| ask(p, Contract { cable: Cable { volts: 0, ..CABLE.cable }, ..CABLE }, &[], 0)),
     (Refusal::CableValue, |p| ask(p, Contract { cable: Cable { cosine: 1_001, ..CABLE.cable }, ..CABLE }, &[], 0)),
     (Refusal::CableValue, |p| ask(p, Contract { cable: Cable { phases: 2, ..CABLE.cable }, ..CABLE }, &[], 0)),
-    (Refusal::Currents, |p| ask(p, Contract { basis: basis::SHARED_POWER, ..AGREED }, &[], 0)),
-    (Refusal::Currents, |p| ask(p, Contract { basis: basis::SHARED_POWER, ..AGREED }, &[1; 65], 0)),
-    (Refusal::Currents, |p| ask(p, Contract { basis: basis::SHARED_POWER, ..AGREED }, &[1, 2_001], 0)),
-    (Refusal::Currents, |p| ask(p, Contract { basis: basis::SHARED_POWER, ..AGREED }, &[1, 1], 2)),
+    (Refusal::Currents, |p| ask(p, Contract { basis: basis::SHARED, ..AGREED }, &[], 0)),
+    (Refusal::Currents, |p| ask(p, Contract { basis: basis::SHARED, ..AGREED }, &[1; 65], 0)),
+    (Refusal::Currents, |p| ask(p, Contract { basis: basis::SHARED, ..AGREED }, &[1, 2_001], 0)),
+    (Refusal::Currents, |p| ask(p, Contract { basis: basis::SHARED, ..AGREED }, &[1, 1], 2)),
 ];
 
 const READING: [Refused; 24] = [
@@ -127,8 +127,8 @@ const READING: [Refused; 24] = [
     (Refusal::BillingBarred, denied_twice, |p| p.record.read_billing_hours(&mut p.store, &[6; 744])),
     (Refusal::AlreadyGiven, read, |p| p.record.read_billing_hours(&mut p.store, &[8; 744])),
     (Refusal::AlreadyGiven, read, |p| p.record.read_control_volume(&p.store, Kwh(801))),
-    (Refusal::AlreadyGiven, read, |p| p.record.read_neighbour(&p.store, source::BILLING_METER, Kwh(12))),
-    (Refusal::AlreadyGiven, read, |p| p.record.read_neighbour(&p.store, source::CONTROL_METER, Kwh(23))),
+    (Refusal::AlreadyGiven, read, |p| p.record.read_neighbour(&p.store, source::BILLING, Kwh(12))),
+    (Refusal::AlreadyGiven, read, |p| p.record.read_neighbour(&p.store, source::CONTROL, Kwh(23))),
     (Refusal::AlreadyGiven, integral, |p| p.record.read_billing_volume(&p.store, Kwh(9_001))),
     (Refusal::AlreadyGiven, integral, |p| p.record.read_control_hours(&mut p.store, &[4; 720])),
     (Refusal::HourCount, interval, |p| p.record.read_billing_hours(&mut p.store, &[6; 743])),
@@ -139,8 +139,8 @@ const READING: [Refused; 24] = [
     (Refusal::TooLarge, unread, |p| p.record.read_control_hours(&mut p.store, &[1_000_001; 720])),
     (Refusal::TooLarge, unread, |p| p.record.read_billing_volume(&p.store, Kwh(720_000_001))),
     (Refusal::TooLarge, interval, |p| p.record.read_control_volume(&p.store, Kwh(744_000_001))),
-    (Refusal::TooLarge, interval, |p| p.record.read_neighbour(&p.store, source::BILLING_METER, Kwh(744_000_001))),
-    (Refusal::TooLarge, interval, |p| p.record.read_neighbour(&p.store, source::CONTROL_METER, Kwh(u64::MAX))),
+    (Refusal::TooLarge, interval, |p| p.record.read_neighbour(&p.store, source::BILLING, Kwh(744_000_001))),
+    (Refusal::TooLarge, interval, |p| p.record.read_neighbour(&p.store, source::CONTROL, Kwh(u64::MAX))),
 ];
 
 const NETWORK: [Refused; 6] = [

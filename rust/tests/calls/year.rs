@@ -65,8 +65,8 @@ fn first_months(p: &mut Point) {
     // April: R = 2. N is source 1: V = 13,000 - 1,240 = 11,760. The weights are February and its days 22 and 23:
     // S = 5,208 + 2 × 336 = 5,880, so each hour is twice the past's. C = 2 × (930 + 2 × 60) = 2,100.
     p.record.read_control_volume(&p.store, Kwh(13_000)).unwrap();
-    p.record.read_neighbour(&p.store, source::CONTROL_METER, Kwh(9_999)).unwrap();
-    p.record.read_neighbour(&p.store, source::BILLING_METER, Kwh(1_240)).unwrap();
+    p.record.read_neighbour(&p.store, source::CONTROL, Kwh(9_999)).unwrap();
+    p.record.read_neighbour(&p.store, source::BILLING, Kwh(1_240)).unwrap();
     let month = Month { ground: 4, volume: 11_760, sum: 2_100, days: 30, capacity: 70 };
     let twice: Vec<_> = stretched(30).iter().map(|day| day.map(|hour| 2 * hour)).collect();
     p.closes_on_working_days(month, &twice, 2, 30_624);
@@ -121,7 +121,7 @@ fn last_months(p: &mut Point) {
 
     // November: R = 2. N is source 2, and more than the reading: V = max(0, 500 - 800) = 0.
     p.record.read_control_volume(&p.store, Kwh(500)).unwrap();
-    p.record.read_neighbour(&p.store, source::CONTROL_METER, Kwh(800)).unwrap();
+    p.record.read_neighbour(&p.store, source::CONTROL, Kwh(800)).unwrap();
     let month = Month { ground: 4, volume: 0, sum: 0, days: 30, capacity: 0 };
     p.closes_on_working_days(month, &[[0; 24]; 30], 2, 67_716);
 
@@ -131,7 +131,7 @@ fn last_months(p: &mut Point) {
     (days[0][9], days[1][9]) = (17, 18);
     p.record.read_billing_hours(&mut p.store, &days.concat()).unwrap();
     let mut marks = p.all_days([mark::ORDINARY; 24]);
-    (marks[9], marks[33]) = (mark::PEAK_AND_CAPACITY, mark::PEAK_AND_CAPACITY);
+    (marks[9], marks[33]) = (mark::BOTH, mark::BOTH);
     p.closes(&marks, Month { ground: 1, volume: 777, sum: 35, days: 2, capacity: 18 }, &days, 0, 68_493);
 }
 
@@ -167,7 +167,7 @@ fn months_of_an_integral_meter() {
 
     // June: V = 16,140 - 480 = 15,660. n = 60, A = 60 × 41 = 2,460; 13,200 over 660 others, 20 each. C = 30 × 41.
     p.record.read_billing_volume(&p.store, Kwh(16_140)).unwrap();
-    p.record.read_neighbour(&p.store, source::BILLING_METER, Kwh(480)).unwrap();
+    p.record.read_neighbour(&p.store, source::BILLING, Kwh(480)).unwrap();
     let month = Month { ground: 2, volume: 15_660, sum: 1_230, days: 30, capacity: 41 };
     p.closes_on_working_days(month, &[day(41, 41, 20); 30], 0, 47_700);
 
@@ -179,7 +179,7 @@ fn months_of_an_integral_meter() {
 /// 10 kW by 1, 1, 1 are 3, 3 and 4 kW; by 3, 1 they are 7.5 and 2.5, so 7 and 3.
 #[test]
 fn shared_power_goes_by_the_place() {
-    let contract = Contract { basis: basis::SHARED_POWER, ..AGREED };
+    let contract = Contract { basis: basis::SHARED, ..AGREED };
     let mut store = vec![0; STORE];
     let mut power = |currents: &[u32], place| -> Result<u64, Refusal> {
         let mut record = open(contract, Date { year: 2023, month: 1 }, currents, place, &mut store)?;
