@@ -23,31 +23,35 @@ fn short(number: u64) -> u32 {
     u32::try_from(number).unwrap_or(u32::MAX)
 }
 
-/// Compares so many calls of each; a test a function and a side of its limits.
-pub fn compare(seed: u64, calls: u64) -> Vec<(String, bool)> {
+/// Of one function: the calls answered with a value and with its refusal, and the first call that differed.
+#[derive(Default)]
+pub struct Compared {
+    pub given: u64,
+    pub refused: u64,
+    pub differs: Option<u64>,
+}
+
+impl Compared {
+    fn note<T: PartialEq>(&mut self, kernel: T, reference: T, refusal: T) {
+        let count = if reference == refusal { &mut self.refused } else { &mut self.given };
+        *count += 1;
+        if kernel != reference {
+            self.differs.get_or_insert(self.given + self.refused);
+        }
+    }
+}
+
+/// Compares so many calls of each function.
+pub fn compare(seed: u64, calls: u64) -> [(&'static str, Compared); 2] {
     let mut dice = Dice::new(seed, u64::MAX);
-    let (mut differ, mut given, mut refused) = ([0, 0], [0, 0], [0, 0]);
+    let (mut formula, mut length) = (Compared::default(), Compared::default());
     for _ in 0..calls {
         let cable = [&[1, 2_000][..], &[1, 250_000], &[0, 1_000], &[1, 3], &[0, 8_760]].map(|l| near(&mut dice, l));
         let [i, u, c, phases, t] = cable;
-        let volume = call::cable_formula(i, u, c, phases, t);
         let expected = host_cable_formula(short(i), short(u), short(c), short(phases), t);
+        formula.note(call::cable_formula(i, u, c, phases, t), expected, u64::MAX);
         let (year, month) = (near(&mut dice, &[2014, 2999]), near(&mut dice, &[1, 12]));
-        let days = call::month_days(year, month) as u64;
-        for (which, same, none) in
-            [(0, volume == expected, expected == u64::MAX), (1, days == host_month_length(year, month), days == 0)]
-        {
-            differ[which] += !same as u64;
-            refused[which] += none as u64;
-            given[which] += !none as u64;
-        }
+        length.note(call::month_days(year, month) as u64, host_month_length(year, month), 0);
     }
-    let mut tests = Vec::new();
-    for (which, name) in ["cable formula", "month length"].iter().enumerate() {
-        println!("{:>12}  {name} within its limits", given[which]);
-        println!("{:>12}  {name} outside them", refused[which]);
-        tests.push((format!("no difference of the {name} in {calls} calls"), differ[which] == 0));
-        tests.push((format!("{name} within and outside its limits is met"), given[which] > 0 && refused[which] > 0));
-    }
-    tests
+    [("cable formula", formula), ("month length", length)]
 }

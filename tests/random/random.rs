@@ -1,7 +1,8 @@
 //! Random histories and forged points, played through the compiled calls and through the reference.
 //!
 //!     random [--calls N] [--seed S] [--threads T]   plays N calls and prints what was met; a difference is shrunk
-//!     random --find N                               only says after how many of N calls there is a difference
+//!     random --find N                               only says after how many of N calls there is a difference, the
+//!                                                   host's functions last
 //!     random --case FILE..                          plays kept cases
 //!
 //! `tests/random/run` builds and runs it. The last line is 'N passed, M failed'.
@@ -140,8 +141,13 @@ fn play_random(seed: u64, calls: u64, threads: u64) -> ! {
         }
     }
     let mut tests = vec![(format!("no difference in {} calls", tally.calls), true)];
-    tests.extend(host::compare(seed, calls / 4));
-    for (name, count) in tally.counts() {
+    let mut counts = tally.counts();
+    for (name, host) in host::compare(seed, calls / 4) {
+        tests.push((format!("no difference of the {name}"), host.differs.is_none()));
+        counts.push((format!("{name} within its limits"), host.given));
+        counts.push((format!("{name} outside them"), host.refused));
+    }
+    for (name, count) in counts {
         println!("{count:>12}  {name}");
         tests.push((format!("{name} is met"), count > 0));
     }
@@ -150,13 +156,20 @@ fn play_random(seed: u64, calls: u64, threads: u64) -> ! {
     finish(&tests)
 }
 
+/// The first difference: of the calls on a point, or else of the host's functions.
 fn find(calls: u64) -> ! {
-    let failure = play_many(1, calls, 0, 1).err();
-    match &failure {
-        Some(Failure { calls, how, .. }) => println!("difference after {calls} calls: {how}"),
-        None => println!("no difference in {calls} calls"),
+    if let Err(Failure { calls, how, .. }) = play_many(1, calls, 0, 1) {
+        println!("difference after {calls} calls: {how}");
+        exit(1);
     }
-    exit(failure.is_some() as i32)
+    for (name, host) in host::compare(1, calls) {
+        if let Some(calls) = host.differs {
+            println!("difference after {calls} calls of the {name}");
+            exit(1);
+        }
+    }
+    println!("no difference in {calls} calls");
+    exit(0)
 }
 
 fn play_cases(files: &[String]) -> ! {
