@@ -156,6 +156,26 @@ static void reasons(void) {
     CHECK(fault_of(SALLOWBINGO_FAILURE_TAKEN_DOWN + 1) == REFUSED_AS(REASON));
 }
 
+static uint32_t billing_hours(record r, size_t count) {
+    return sallowbingo_read_billing_hours(r, store, SALLOWBINGO_STORE, hours, count).refusal;
+}
+
+/* Calls that come at the wrong time, or with a wrong count. */
+static void occasions(void) {
+    record r = january(), out = r, twice = r;
+    out.service.serving = 0, twice.service.denials = SALLOWBINGO_DENIALS_MAX;
+    CHECK(billing_hours(out, HOURS) == REFUSED_AS(BILLING_BARRED));
+    CHECK(billing_hours(twice, HOURS) == REFUSED_AS(BILLING_BARRED));
+    CHECK(billing_hours(r, HOURS - 1) == REFUSED_AS(HOUR_COUNT));
+    record once = sallowbingo_read_control_volume(r, store, SALLOWBINGO_STORE, kwh(1)).after;
+    CHECK(sallowbingo_read_control_volume(once, store, SALLOWBINGO_STORE, kwh(1)).refusal == REFUSED_AS(ALREADY_GIVEN));
+    CHECK(sallowbingo_fail(out, store, SALLOWBINGO_STORE, 1).refusal == REFUSED_AS(OUT_OF_SERVICE));
+    CHECK(sallowbingo_admit(r, store, SALLOWBINGO_STORE).refusal == REFUSED_AS(IN_SERVICE));
+    CHECK(sallowbingo_permit(r, store, SALLOWBINGO_STORE).refusal == REFUSED_AS(NO_DENIAL));
+    CHECK(sallowbingo_close(r, store, SALLOWBINGO_STORE, marks, HOURS - 1, buffer, SALLOWBINGO_ROW).refusal
+          == REFUSED_AS(MARK_COUNT));
+}
+
 /* The record's own limits, seen by a denial. */
 static uint32_t denied(record r) { return sallowbingo_deny(r, store, SALLOWBINGO_STORE).refusal; }
 
@@ -280,6 +300,7 @@ int main(void) {
     kinds();
     readings();
     reasons();
+    occasions();
     records();
     stores();
     mark_names();
