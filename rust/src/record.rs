@@ -1,7 +1,7 @@
 //! A point: its record, and the calls on it.
 
-use crate::raw::{self, Answer, Contract, Date, Figures as Closing, Kwh};
 use crate::numbers::{self, FIELDS};
+use crate::raw::{self, Answer, Contract, Date, Figures as Closing, Kwh};
 use crate::{call, month_days, Refusal};
 
 /// The record of a delivery point.

@@ -124,7 +124,9 @@ impl Refusal {
             Refusal::Basis => "the basis is not 1 to 3, or its power is not 1 to 1,000,000",
             Refusal::CableValue => "a value of the cable is outside its limits",
             Refusal::Currents => "the list of currents is empty, too long or holds a wrong current, or lacks the place",
-            Refusal::NoSuchMeter => "the point has no meter for such a reading, or the neighbour's source is not 1 or 2",
+            Refusal::NoSuchMeter => {
+                "the point has no meter for such a reading, or the neighbour's source is not 1 or 2"
+            }
             Refusal::BillingBarred => "the point is out of service, or access was denied twice",
             Refusal::AlreadyGiven => "the reading is already given this month",
             Refusal::HourCount => "the reading has not as many hours as the month",

@@ -142,6 +142,9 @@ pub fn read(text: &str) -> Result<Vec<Step>, String> {
             }
         }
     }
+    if lent != STORE {
+        return Err("no call follows the last lend".to_string());
+    }
     Ok(steps)
 }
 
@@ -157,8 +160,9 @@ fn read_call(step: text::Step, lent: usize) -> Result<Step, String> {
 }
 
 fn read_record(rest: &str) -> Result<Forged, String> {
-    let values: Vec<u64> = rest.split_whitespace().filter_map(|word| word.parse().ok()).collect();
-    let numbers: [u64; FIELDS] = values.try_into().map_err(|_| format!("{FIELDS} numbers are due"))?;
+    let due = || format!("{FIELDS} numbers are due");
+    let values: Result<Vec<u64>, _> = rest.split_whitespace().map(str::parse).collect();
+    let numbers: [u64; FIELDS] = values.map_err(|_| due())?.try_into().map_err(|_| due())?;
     let record = from_numbers(numbers).ok_or("a number has more than 32 bits")?;
     Ok(Forged { record, words: Vec::new() })
 }

@@ -135,11 +135,10 @@ fn edge_word(dice: &mut Dice) -> (usize, Vec<u32>) {
 
 /// A value for a field, by its place in the header's order: its limits, one outside, or any number.
 fn value(dice: &mut Dice, field: usize, record: &Record) -> u64 {
-    let (open, year, month) = (record.open_index(), record.year as u64, record.month as u64);
+    let (year, month) = (record.year as u64, record.month as u64);
     let most = record.t() as u64 * MILLION;
     let shift = dice.below(64);
     let any = dice.next() >> shift;
-    let before = |n: u64| open.saturating_sub(n);
     match field {
         0 => dice.pick(&[0, 1, 2, SHORT]),
         1..=3 => dice.pick(&[0, 1, 2, 3, 4, SHORT]),
@@ -153,29 +152,27 @@ fn value(dice: &mut Dice, field: usize, record: &Record) -> u64 {
         11 => dice.pick(&[0, 1, 2, 3, 11_999, 12_000, 12_001, SHORT, any]),
         12 => dice.pick(&[0, 1, 2, SHORT]),
         13 => dice.pick(&[0, 1, 2, 3, SHORT]),
-        14 => dice.pick(&[
-            0,
-            1,
-            24_168,
-            24_169,
-            before(13),
-            before(12),
-            before(1),
-            open,
-            open + 1,
-            36_000,
-            36_001,
-            WIDE,
-            any,
-        ]),
+        14 => fault(dice, record, any),
         15..=26 => dice.pick(&[0, 1, 2013, 2014, year.saturating_sub(1), year, year + 1, 2999, 3000, SHORT, any]),
-        27 => {
-            let row = dice.below(12);
-            let held = index(record.years[row as usize] as u64, row + 1);
-            dice.pick(&[0, 24_168, 24_169, before(12), before(1), open, open + 1, held, held, 36_001, WIDE, any])
-        }
+        27 => latest(dice, record, any),
         28 | 30 | 32 | 34 => dice.pick(&[0, 1, 2, SHORT]),
         29 | 31 | 33 | 35 => dice.pick(&[0, 1, most, most + 1, WIDE, any]),
         _ => dice.pick(&[0, 1, TOTAL - 1, TOTAL, TOTAL + 1, WIDE, any]),
     }
+}
+
+/// A month of the last fault: of the calendar's ends, or near a year before the open month, or near that.
+fn fault(dice: &mut Dice, record: &Record, any: u64) -> u64 {
+    let open = record.open_index();
+    let [before_13, before_12, before_1] = [13, 12, 1].map(|months| open.saturating_sub(months));
+    dice.pick(&[0, 1, 24_168, 24_169, before_13, before_12, before_1, open, open + 1, 36_000, 36_001, WIDE, any])
+}
+
+/// A latest past: of the calendar's ends, near the open month, or in its row.
+fn latest(dice: &mut Dice, record: &Record, any: u64) -> u64 {
+    let open = record.open_index();
+    let row = dice.below(12);
+    let held = index(record.years[row as usize] as u64, row + 1);
+    let [before_12, before_1] = [12, 1].map(|months| open.saturating_sub(months));
+    dice.pick(&[0, 24_168, 24_169, before_12, before_1, open, open + 1, held, held, 36_001, WIDE, any])
 }

@@ -23,20 +23,21 @@ fn short(number: u64) -> u32 {
     u32::try_from(number).unwrap_or(u32::MAX)
 }
 
-/// Of one function: the calls answered with a value and with its refusal, and the first call that differed.
+/// Of one function: the calls answered with a value and with its refusal, and where and how it first differed.
 #[derive(Default)]
 pub struct Compared {
     pub given: u64,
     pub refused: u64,
-    pub differs: Option<u64>,
+    pub differs: Option<(u64, String)>,
 }
 
 impl Compared {
-    fn note<T: PartialEq>(&mut self, kernel: T, reference: T, refusal: T) {
+    fn note(&mut self, arguments: &[u64], kernel: u64, reference: u64, refusal: u64) {
         let count = if reference == refusal { &mut self.refused } else { &mut self.given };
         *count += 1;
-        if kernel != reference {
-            self.differs.get_or_insert(self.given + self.refused);
+        if kernel != reference && self.differs.is_none() {
+            let how = format!("of {arguments:?}: kernel {kernel}, expected {reference}");
+            self.differs = Some((self.given + self.refused, how));
         }
     }
 }
@@ -49,9 +50,9 @@ pub fn compare(seed: u64, calls: u64) -> [(&'static str, Compared); 2] {
         let cable = [&[1, 2_000][..], &[1, 250_000], &[0, 1_000], &[1, 3], &[0, 8_760]].map(|l| near(&mut dice, l));
         let [i, u, c, phases, t] = cable;
         let expected = host_cable_formula(short(i), short(u), short(c), short(phases), t);
-        formula.note(call::cable_formula(i, u, c, phases, t), expected, u64::MAX);
+        formula.note(&cable, call::cable_formula(i, u, c, phases, t), expected, u64::MAX);
         let (year, month) = (near(&mut dice, &[2014, 2999]), near(&mut dice, &[1, 12]));
-        length.note(call::month_days(year, month) as u64, host_month_length(year, month), 0);
+        length.note(&[year, month], call::month_days(year, month) as u64, host_month_length(year, month), 0);
     }
     [("cable formula", formula), ("month length", length)]
 }

@@ -1,6 +1,7 @@
 //! Random histories and forged points, played through the compiled calls and through the reference.
 //!
 //!     random [--calls N] [--seed S] [--threads T]   plays N calls and prints what was met; a difference is shrunk
+//!     random --history N [--seed S]                 plays the history of that number
 //!     random --find N                               only says after how many of N calls there is a difference, the
 //!                                                   host's functions last
 //!     random --case FILE..                          plays kept cases
@@ -10,6 +11,7 @@
 #[path = "../../rust/src/call.rs"]
 mod call;
 mod case;
+mod crash;
 mod dice;
 mod forge;
 mod history;
@@ -30,7 +32,7 @@ mod values;
 use case::{Act, Step};
 use dice::Dice;
 use history::Plan;
-use sides::Sides;
+use sides::{guarded, Sides};
 use std::process::exit;
 use std::sync::atomic::{AtomicBool, Ordering};
 use std::time::Instant;
@@ -56,7 +58,7 @@ impl Table<'_> {
     fn play(&mut self, step: Step) -> Result<bool, String> {
         self.steps.push(step);
         let step = &self.steps[self.steps.len() - 1];
-        let met = self.sides.step(step).inspect_err(|_| self.tally.calls += 1)?;
+        let met = guarded(|| self.sides.step(step)).inspect_err(|_| self.tally.calls += 1)?;
         self.tally.note(step, &met, &self.sides);
         Ok(met.closed.is_some())
     }
@@ -90,6 +92,7 @@ fn play_forged(table: &mut Table, dice: &mut Dice) -> Result<(), String> {
 
 /// One history of up to 60 months, or a shorter one and forged points after it.
 fn play_one(seed: u64, place: u64, tally: &mut Tally) -> Result<(), Failure> {
+    crash::playing(seed, place);
     let mut dice = Dice::new(seed, place);
     let mut table = Table { sides: Sides::new(), steps: Vec::new(), tally };
     let forging = dice.percent(25);
@@ -99,6 +102,9 @@ fn play_one(seed: u64, place: u64, tally: &mut Tally) -> Result<(), Failure> {
     tally.histories += 1;
     played.map_err(|how| Failure { steps, how, calls: tally.calls, place })
 }
+
+/// From so many calls on, everything that is counted has to be met.
+const COMPLETE: u64 = 200_000;
 
 /// Whether a difference was found, so that the other threads need not go on.
 static FOUND: AtomicBool = AtomicBool::new(false);
@@ -117,6 +123,7 @@ fn play_many(seed: u64, calls: u64, first: u64, every: u64) -> Result<Tally, Fai
 fn report_failure(seed: u64, failure: Failure) -> ! {
     let Failure { steps, how, calls, place } = failure;
     println!("difference after {calls} calls, seed {seed}, history {place}: {how}");
+    std::panic::set_hook(Box::new(|_| {})); // a panic is shown once, and not at each try of the shrinking
     let small = shrink::shrink(steps);
     let (at, how) = shrink::difference(&small).expect("a shrunk case still differs");
     println!("# shrunk to {} steps; at step {}: {how}", small.len(), at + 1);
@@ -126,6 +133,7 @@ fn report_failure(seed: u64, failure: Failure) -> ! {
 }
 
 fn play_random(seed: u64, calls: u64, threads: u64) -> ! {
+    println!("seed {seed}");
     let start = Instant::now();
     let share = calls.div_ceil(threads);
     let results: Vec<Result<Tally, Failure>> = std::thread::scope(|scope| {
@@ -143,13 +151,16 @@ fn play_random(seed: u64, calls: u64, threads: u64) -> ! {
     let mut tests = vec![(format!("no difference in {} calls", tally.calls), true)];
     let mut counts = tally.counts();
     for (name, host) in host::compare(seed, calls / 4) {
-        tests.push((format!("no difference of the {name}"), host.differs.is_none()));
+        let how = host.differs.as_ref().map_or("", |(_, how)| how);
+        tests.push((format!("no difference of the {name} {how}"), host.differs.is_none()));
         counts.push((format!("{name} within its limits"), host.given));
         counts.push((format!("{name} outside them"), host.refused));
     }
     for (name, count) in counts {
         println!("{count:>12}  {name}");
-        tests.push((format!("{name} is met"), count > 0));
+        if calls >= COMPLETE {
+            tests.push((format!("{name} is met"), count > 0));
+        }
     }
     let seconds = start.elapsed().as_secs_f64();
     println!("{} calls in {} histories, seed {seed}, {seconds:.1} s", tally.calls, tally.histories);
@@ -163,8 +174,8 @@ fn find(calls: u64) -> ! {
         exit(1);
     }
     for (name, host) in host::compare(1, calls) {
-        if let Some(calls) = host.differs {
-            println!("difference after {calls} calls of the {name}");
+        if let Some((calls, how)) = host.differs {
+            println!("difference after {calls} calls: {name} {how}");
             exit(1);
         }
     }
@@ -199,28 +210,38 @@ fn finish(tests: &[(String, bool)]) -> ! {
     exit((failed > 0 || tests.is_empty()) as i32)
 }
 
+fn play_history(seed: u64, place: u64) -> ! {
+    match play_one(seed, place, &mut Tally::new()) {
+        Ok(()) => finish(&[(format!("history {place} of seed {seed}"), true)]),
+        Err(failure) => report_failure(seed, failure),
+    }
+}
+
+fn usage() -> ! {
+    eprintln!("usage: random [--calls N] [--seed S] [--threads T] | --history N [--seed S] | --find N | --case FILE..");
+    exit(2);
+}
+
 fn main() {
+    crash::watch();
     let words: Vec<String> = std::env::args().skip(1).collect();
     if words.first().is_some_and(|word| word == "--case") {
         play_cases(&words[1..]);
     }
-    if let [word, calls] = &words[..] {
-        if let ("--find", Ok(calls)) = (word.as_str(), calls.parse()) {
-            find(calls);
-        }
-    }
-    let (mut calls, mut seed, mut threads) = (200_000, 1, 1);
+    let (mut calls, mut seed, mut threads, mut history) = (300_000, 1, 1, None);
     for pair in words.chunks(2) {
-        let value = pair.get(1).and_then(|word| word.parse().ok()).filter(|value| *value > 0);
-        match (pair[0].as_str(), value) {
-            ("--calls", Some(value)) => calls = value,
-            ("--seed", Some(value)) => seed = value,
-            ("--threads", Some(value)) => threads = value,
-            _ => {
-                eprintln!("usage: random [--calls N] [--seed S] [--threads T] | --find N | --case FILE..");
-                exit(2);
-            }
+        let Some(value) = pair.get(1).and_then(|word| word.parse().ok()) else { usage() };
+        match pair[0].as_str() {
+            "--find" => find(value),
+            "--history" => history = Some(value),
+            "--seed" => seed = value,
+            "--calls" if value > 0 => calls = value,
+            "--threads" if value > 0 => threads = value,
+            _ => usage(),
         }
     }
-    play_random(seed, calls, threads)
+    match history {
+        Some(place) => play_history(seed, place),
+        None => play_random(seed, calls, threads),
+    }
 }

@@ -4,12 +4,12 @@ use crate::case::{Act, Forged, Step};
 use crate::numbers::{from_numbers, numbers, FIELDS};
 use crate::reference::calls::{Call, Opening};
 use crate::reference::rules::{index, year_and_month};
-use crate::sides::{Sides, ROW, STORE};
+use crate::sides::{guarded, Sides, ROW, STORE};
 
 /// The place of the first step after which the sides differ, and how.
 pub fn difference(steps: &[Step]) -> Option<(usize, String)> {
     let mut sides = Sides::new();
-    steps.iter().enumerate().find_map(|(place, step)| sides.step(step).err().map(|how| (place, how)))
+    steps.iter().enumerate().find_map(|(place, step)| guarded(|| sides.step(step)).err().map(|how| (place, how)))
 }
 
 pub fn shrink(mut steps: Vec<Step>) -> Vec<Step> {

@@ -8,6 +8,7 @@ use crate::reference::calls::{Call, Opening};
 use crate::reference::point::{self, Closed, Record};
 use crate::reference::rules::Outcome;
 use std::fmt::Debug;
+use std::panic::{catch_unwind, AssertUnwindSafe};
 
 pub const STORE: usize = 10_416;
 pub const ROW: usize = 744;
@@ -54,11 +55,21 @@ fn same<T: PartialEq + Debug>(what: &str, kernel: T, reference: T) -> Result<(),
 }
 
 fn same_words(what: &str, kernel: &[u32], reference: &[u32]) -> Result<(), String> {
+    same(&format!("length of {what}"), kernel.len(), reference.len())?;
     if kernel == reference {
         return Ok(());
     }
     let at = kernel.iter().zip(reference).position(|(k, r)| k != r).unwrap_or(0);
     same(&format!("{what}, word {at}"), kernel[at], reference[at])
+}
+
+/// What it answers; a panic on the way is a difference too.
+pub fn guarded<T>(play: impl FnOnce() -> Result<T, String>) -> Result<T, String> {
+    catch_unwind(AssertUnwindSafe(play)).unwrap_or_else(|panic| {
+        let text = panic.downcast_ref::<String>().cloned();
+        let text = text.or_else(|| panic.downcast_ref::<&str>().map(|text| text.to_string()));
+        Err(format!("panic: {}", text.unwrap_or_default()))
+    })
 }
 
 impl Sides {
@@ -130,7 +141,7 @@ impl Sides {
     }
 
     fn call(&mut self, call: &Call, step: &Step) -> Result<(u32, Option<Closed>), String> {
-        let given = self.kernel;
+        let (given, t) = (self.kernel, self.record.t());
         let (store, hours) = (&mut self.kernel_store[..step.lent], &mut self.kernel_hours[..step.room]);
         let answer = kernel::call(given, store, hours, call);
         let (store, hours) = (&mut self.store[..step.lent], &mut self.hours[..step.room]);
@@ -143,7 +154,7 @@ impl Sides {
         same("figures", answer.figures, closed.map_or(Figures::default(), figures))?;
         self.kernel = answer.after;
         self.compare_words(number)?;
-        self.follow(call, number == 0, answer.figures)?;
+        self.follow(call, (number == 0).then_some(t), answer.figures)?;
         Ok((number, closed))
     }
 
@@ -160,12 +171,16 @@ impl Sides {
         Ok(())
     }
 
-    /// Demand 3: the book is fed the call, and an accepted closing is held against it.
-    fn follow(&mut self, call: &Call, accepted: bool, given: Figures) -> Result<(), String> {
+    /// Demand 3: the book is fed the call, with T of the open month where it was accepted, and an accepted closing is
+    /// held against the book.
+    fn follow(&mut self, call: &Call, accepted: Option<usize>, given: Figures) -> Result<(), String> {
         let Some(list) = &mut self.list else { return Ok(()) };
-        let Some(outcome) = list.book.feed(call, accepted) else { return Ok(()) };
+        let outcome = list.book.feed(call, accepted.is_some());
+        let closing = accepted.filter(|_| matches!(call, Call::Close { .. }));
+        same("closing of the book", closing.is_some(), outcome.is_some())?;
+        let (Some(t), Some(outcome)) = (closing, outcome) else { return Ok(()) };
         same("figures by the book", given, figures_of(outcome))?;
-        let t = outcome.hours.len();
+        same("hours and exact shares of the book", (t, t), (outcome.hours.len(), outcome.exact.len()))?;
         let handed = &self.kernel_hours[..t];
         let far = outcome.exact.iter().zip(handed).position(|(exact, hour)| !exact.is_near(*hour as u64));
         same("hour a kWh or more from its exact share", far, None)?;

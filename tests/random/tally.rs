@@ -10,7 +10,7 @@ use crate::sides::{Met, Sides, ROW};
 const NUMBERS: [usize; 24] =
     [1, 2, 3, 10, 11, 12, 13, 14, 20, 21, 22, 23, 24, 30, 31, 32, 33, 34, 40, 41, 42, 43, 44, 45];
 
-const SITUATIONS: [&str; 32] = [
+const SITUATIONS: [&str; 33] = [
     "opening in January to April 2014",
     "opening on basis 1",
     "opening on basis 2",
@@ -24,6 +24,7 @@ const SITUATIONS: [&str; 32] = [
     "reading discarded by the second denial",
     "fault 12 months after the last",
     "fault 13 months after the last",
+    "closing held against the book",
     "closing of a forged point",
     "closing of the 60th month of a history",
     "closing of December 2999",
@@ -178,7 +179,7 @@ fn of_call(call: &Call, met: &Met, sides: &Sides) -> [bool; 6] {
     ]
 }
 
-fn of_closing(marks: &[u8], closed: &Closed, before: &Record, sides: &Sides) -> [bool; 19] {
+fn of_closing(marks: &[u8], closed: &Closed, before: &Record, sides: &Sides) -> [bool; 20] {
     let ground = closed.ground;
     let neighbours = [2, 3].map(|which| (before.given[which] == 1).then_some(before.volumes[which]));
     let above = |which: usize| neighbour_volume(&neighbours) > before.volumes[which];
@@ -190,6 +191,7 @@ fn of_closing(marks: &[u8], closed: &Closed, before: &Record, sides: &Sides) -> 
     let february = before.month == 2;
     let basis = before.contract.basis;
     [
+        sides.follows_list(),
         !sides.follows_list(),
         sides.months() == 60,
         before.year == 2999 && before.month == 12,
