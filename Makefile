@@ -33,7 +33,11 @@ ifeq ($(wildcard $(compiled)),)
 install: $(compiled)
 endif
 install:
-	@case "$(PREFIX)" in /*) ;; *) echo "PREFIX is a whole path, from / on"; exit 2 ;; esac
+	@for folder in "$(PREFIX)" "$(INCLUDEDIR)" "$(LIBDIR)"; do case "$$folder" in \
+	    *'&'* | *'|'* | *'\'*) echo "a folder's name has no &, | or \\: $$folder"; exit 2 ;; \
+	    /*) ;; \
+	    *) echo "a folder is a whole path, from / on: $$folder"; exit 2 ;; \
+	esac; done
 	@$(MAKE) -q $(compiled) || echo "note: the archive is older than a source; make builds it anew"
 	$(INSTALL) -d "$(DESTDIR)$(INCLUDEDIR)" "$(DESTDIR)$(LIBDIR)/pkgconfig"
 	$(INSTALL) -m 644 include/sallowbingo.h "$(DESTDIR)$(INCLUDEDIR)/sallowbingo.h"

@@ -3,8 +3,9 @@
  *
  * Every function ends on every input and needs no check beforehand: a value
  * outside the limits gives the refusal named here. Nothing is allocated and no
- * state is kept but the record and the store, which are the caller's, so calls on
- * different points may run at the same time.
+ * state is kept but the record and the store, which are the caller's. So calls on
+ * different points may run at the same time, each with an hour buffer of its own;
+ * the calls on one point come one after another.
  *
  * Volumes are whole kWh and powers whole kW. 'Document 01' is the specification;
  * T is the hours of the open month, 24 times its days. */
@@ -106,8 +107,9 @@ extern "C" {
 
 /* The ground of a closing. A control volume goes by the past for the first two
  * missed months (4); later, or with two denials, by the past where that puts
- * more on a capacity hour than the peak rule on a peak hour (6); and by the peak
- * rule otherwise, so always where there is no past (5). */
+ * more on a capacity hour, on average, than the peak rule on a peak hour (6); and
+ * by the peak rule otherwise, so always without a past, and in such a month
+ * without peak hours (5). */
 #define SALLOWBINGO_GROUND_BILLING_HOURS 1u
 #define SALLOWBINGO_GROUND_BILLING_VOLUME 2u
 #define SALLOWBINGO_GROUND_CONTROL_HOURS 3u
@@ -128,10 +130,10 @@ typedef enum sallowbingo_refusal {
     /* The store is not SALLOWBINGO_STORE words. */
     SALLOWBINGO_REFUSAL_STORE_LENGTH = 1,
     /* The record is not open, a field is outside its limits or not 0 where it
-     * has to be, the last fault is after the open month, a row's month or the
-     * latest past is not before it, the latest past month is not in its row, or
-     * a reading is given of a form that the contract lacks or with too large a
-     * volume. */
+     * has to be, the last fault is neither 0 nor in 2014 to 2999 or is after the
+     * open month, a row's month or the latest past is not before it, the latest
+     * past month is not in its row, or a reading is given of a form that the
+     * contract lacks or with too large a volume. */
     SALLOWBINGO_REFUSAL_RECORD = 2,
     /* The calendar is over: January 3000 is open. */
     SALLOWBINGO_REFUSAL_CALENDAR_OVER = 3,
@@ -196,7 +198,10 @@ typedef enum sallowbingo_refusal {
 
 /* STRUCTS. Flags are 1 for yes and 0 for no, and any other value is outside the
  * limits. The last fault and the latest past are numbers of months, year * 12 +
- * month, and 0 for none. */
+ * month, and 0 for none.
+ *
+ * Bytes between the fields hold anything: records are compared and kept field by
+ * field, never as memory. */
 
 /* A power in kW. */
 typedef struct {
@@ -228,14 +233,15 @@ typedef struct {
 } sallowbingo_contract;
 
 /* The run of missed months, whether the point is in service, the denials, and
- * the month of the last fault. */
+ * the month of the last fault, 0 or in 2014 to 2999 and not after the open one. */
 typedef struct {
     uint32_t run, serving, denials;
     uint64_t fault;
 } sallowbingo_service;
 
-/* The year that the row of each calendar month holds, 0 for none, and the
- * latest past month. */
+/* The year that the row of each calendar month holds, 0 for none or 2014 to
+ * 2999, and the latest past month, which is in its row. All lie before the open
+ * month. */
 typedef struct {
     uint32_t years[12];
     uint64_t latest;
@@ -267,7 +273,8 @@ typedef struct {
 } sallowbingo_record;
 
 /* Of an accepted closing, else 0: ground, month volume, capacity, C (the sum of
- * the volumes in the capacity hours) and d (the working days). */
+ * the volumes in the capacity hours) and d (the working days). Capacity is C / d
+ * rounded half up, and 0 if d is 0. */
 typedef struct {
     uint32_t ground;
     sallowbingo_kwh volume;
@@ -391,8 +398,10 @@ uint32_t sallowbingo_month_days(uint64_t year, uint64_t month);
  * array of SALLOWBINGO_STORE words, lent with its length in words. A record of
  * any bits may be handed in: one that is outside document 01's limits is refused.
  *
- * Every pointer is valid for the length that is lent with it, and the arrays
- * that are lent to one call do not overlap. With length 0 a pointer may be null.
+ * Every pointer is aligned for its type and valid for the length that is lent
+ * with it, and the arrays that are lent to one call do not overlap. With length 0
+ * a pointer may be null. The store before an opening and the hour buffer before a
+ * closing may hold anything.
  *
  * The lowest number that applies is returned. A refused call leaves every array
  * as it was and answers the record given, with figures 0; a refused opening
@@ -410,7 +419,7 @@ sallowbingo_answer sallowbingo_open_point(sallowbingo_contract asked, sallowbing
                                           size_t points, size_t place, uint32_t *store, size_t words);
 
 /* Takes this month's hours of an interval billing meter into row 12, once a
- * month; count is T.
+ * month, and again where the reading was discarded; count is T.
  * Refusals: 1 to 3, 20 NO_SUCH_METER, 21 BILLING_BARRED, 22 ALREADY_GIVEN,
  * 23 HOUR_COUNT, 24 TOO_LARGE. */
 sallowbingo_answer sallowbingo_read_billing_hours(sallowbingo_record record, uint32_t *store, size_t words,
@@ -424,7 +433,8 @@ sallowbingo_answer sallowbingo_read_billing_hours(sallowbingo_record record, uin
 sallowbingo_answer sallowbingo_read_control_hours(sallowbingo_record record, uint32_t *store, size_t words,
                                                   const uint32_t *hours, size_t count);
 
-/* Takes this month's volume of an integral billing meter, once a month.
+/* Takes this month's volume of an integral billing meter, once a month, and
+ * again where the reading was discarded.
  * Refusals: 1 to 3, 20 NO_SUCH_METER, 21 BILLING_BARRED, 22 ALREADY_GIVEN,
  * 24 TOO_LARGE. */
 sallowbingo_answer sallowbingo_read_billing_volume(sallowbingo_record record, const uint32_t *store, size_t words,
@@ -437,8 +447,8 @@ sallowbingo_answer sallowbingo_read_control_volume(sallowbingo_record record, co
                                                    sallowbingo_kwh volume);
 
 /* Takes this month's volume of a neighbour, once a month for each source. A
- * closing takes it off the volume of an integral meter; source 1 counts where
- * both are given.
+ * closing takes it off the volume of an integral meter, never below 0; source 1
+ * counts where both are given.
  * Refusals: 1 to 3, 20 NO_SUCH_METER (the source), 22 ALREADY_GIVEN (from that
  * source), 24 TOO_LARGE. */
 sallowbingo_answer sallowbingo_read_neighbour(sallowbingo_record record, const uint32_t *store, size_t words,

@@ -2,7 +2,7 @@
 //!
 //! A point is opened on its contract. Readings, failures, admissions, denials of access and permissions come in, and
 //! each month is closed, each as one call on a [`Record`] and a store of [`STORE`] words that the caller keeps. A
-//! closing gives the hours and its figures, [`Closing`]. The rules and the numbers are those of the specification
+//! closing gives the hours and its [`Figures`]. The rules and the numbers are those of the specification
 //! *Estimated consumption at a delivery point*, called document 01 here.
 //!
 //! Nothing has to be checked beforehand: arguments are plain numbers and slices of any length, a call that document 01
@@ -47,6 +47,17 @@
 //! assert_eq!(point.total(), Kwh(5_000));
 //! # Ok::<(), Refusal>(())
 //! ```
+//!
+//! # The archive
+//!
+//! The crate links `libsallowbingo.a`, which has to be of the crate's own version: the build asks pkg-config for it and
+//! stops at another. With the variable `SALLOWBINGO_LIB_DIR` set, the archive in that folder is taken, and whoever sets
+//! it vouches for its version.
+//!
+//! # Panics
+//!
+//! A call panics where the archive answers a number that document 01 does not have. An archive of this version never
+//! does.
 
 #![no_std]
 #![deny(missing_docs)]
@@ -60,7 +71,7 @@ mod record;
 mod refusal;
 
 pub use numbers::FIELDS;
-pub use raw::{Cable, Contract, Date, Figures as Closing, Kw, Kwh};
+pub use raw::{Cable, Contract, Date, Figures, Kw, Kwh};
 pub use record::{open, Record};
 pub use refusal::Refusal;
 
@@ -171,7 +182,7 @@ pub const fn ground_sentence(ground: u32) -> Option<&'static str> {
         3 => "the control meter's hours",
         4 => "the control meter's volume, by the past",
         5 => "the control meter's volume, by the peak rule",
-        6 => "the control meter's volume, by the past, whose capacity hours are above the peak rule's peak hours",
+        6 => "the control meter's volume, by the past: more on a capacity hour than by the peak rule on a peak hour",
         7 => "the hours of the past",
         8 => "the power, in every hour",
         9 => "the cable formula, evenly",

@@ -1,7 +1,7 @@
 //! A point: its record, and the calls on it.
 
 use crate::numbers::{self, FIELDS};
-use crate::raw::{self, Answer, Contract, Date, Figures as Closing, Kwh};
+use crate::raw::{self, Answer, Contract, Date, Figures, Kwh};
 use crate::{call, month_days, Refusal};
 
 /// The record of a delivery point.
@@ -14,9 +14,10 @@ pub struct Record(pub(crate) raw::Record);
 
 /// Opens a point on its contract and in its first month, and clears the store.
 ///
-/// On [`basis::AGREED`](crate::basis::AGREED) and [`basis::SHARED`](crate::basis::SHARED) the
-/// contract's power is the agreed one. On the second it is shared by the currents of the points' cables, and `place` is
-/// the point's place in that list, counted from 0. What the basis does not use is ignored. Refused with 1 and 10 to 14.
+/// On [`basis::AGREED`](crate::basis::AGREED) and [`basis::SHARED`](crate::basis::SHARED) the contract's power is the
+/// agreed one. On the second it is shared by the currents of the points' cables, and `place` is the point's place in
+/// that list, counted from 0. What the basis does not use is ignored, and what the store held too. Refused with 1 and
+/// 10 to 14.
 pub fn open(
     contract: Contract,
     date: Date,
@@ -36,7 +37,7 @@ fn accepted(answer: &Answer) -> Result<(), Refusal> {
     }
 }
 
-/// The readings of a month, each at most once.
+/// The readings of a month, each at most once; a billing reading that was discarded may be given again.
 impl Record {
     /// Reads the billing meter's hours, where it is an interval meter. Refused with 1 to 3 and 20 to 24.
     pub fn read_billing_hours(&mut self, store: &mut [u32], hours: &[u32]) -> Result<(), Refusal> {
@@ -58,9 +59,9 @@ impl Record {
         self.keep(call::read_control_volume(self.0, store, volume))
     }
 
-    /// Reads a neighbour's volume, of its billing or its control meter (see [`source`](crate::source)), which goes off
-    /// the volume of an integral meter; the billing meter's counts where both are given. Refused with 1 to 3, 20, 22
-    /// and 24.
+    /// Reads a neighbour's volume, of its billing or its control meter (see [`source`](crate::source)). It goes off the
+    /// volume of an integral meter, never below 0; the billing meter's counts where both are given. Refused with 1 to
+    /// 3, 20, 22 and 24.
     pub fn read_neighbour(&mut self, store: &[u32], source: u32, volume: Kwh) -> Result<(), Refusal> {
         self.keep(call::read_neighbour(self.0, store, source, volume))
     }
@@ -68,9 +69,9 @@ impl Record {
 
 /// The reports of the network firm.
 impl Record {
-    /// Takes the point out of service, for a reason of [`reason`](crate::reason), and discards this month's
-    /// billing reading. A fault or a loss at most 12 months after an earlier one sets the run to 0. Refused with 1 to
-    /// 3, 30 and 31.
+    /// Takes the point out of service, for a reason of [`reason`](crate::reason), and discards this month's billing
+    /// reading. A fault or a loss at most 12 months after an earlier one sets the run to 0. Refused with 1 to 3, 30 and
+    /// 31.
     pub fn fail(&mut self, store: &mut [u32], reason: u32) -> Result<(), Refusal> {
         self.keep(call::fail(self.0, store, reason))
     }
@@ -96,8 +97,9 @@ impl Record {
     /// Closes the open month and opens the next one.
     ///
     /// `marks` has one byte for each hour of the month, see [`mark`](crate::mark). `hours` has [`ROW`](crate::ROW)
-    /// words; it gets the month's hours, and 0 from the month's end on. Refused with 1 to 3 and 40 to 45.
-    pub fn close(&mut self, store: &mut [u32], marks: &[u8], hours: &mut [u32]) -> Result<Closing, Refusal> {
+    /// words, which may hold anything; it gets the month's hours, and 0 from the month's end on. Refused with 1 to 3
+    /// and 40 to 45.
+    pub fn close(&mut self, store: &mut [u32], marks: &[u8], hours: &mut [u32]) -> Result<Figures, Refusal> {
         let answer = call::close(self.0, store, marks, hours);
         self.keep(answer).map(|()| answer.figures)
     }

@@ -21,7 +21,10 @@ use core::fmt;
 pub enum Refusal {
     /// The store has not 10,416 words.
     StoreLength = 1,
-    /// The record is not open, or outside the limits of document 01.
+    /// The record is not open, a field is outside its limits or not 0 where it has to be, the last fault is neither
+    /// none nor in 2014 to 2999 or is after the open month, a row's month or the latest past is not before it, the
+    /// latest past month is not in its row, or a reading is given of a form that the contract lacks or with too large a
+    /// volume.
     Record = 2,
     /// The calendar is over: the open month is January 3000.
     CalendarOver = 3,
@@ -117,11 +120,11 @@ impl Refusal {
     pub const fn sentence(self) -> &'static str {
         match self {
             Refusal::StoreLength => "the store has not 10,416 words",
-            Refusal::Record => "the record is not open, or outside the limits of document 01",
+            Refusal::Record => "the record is not open, or a field, a month or a reading in it is outside its limits",
             Refusal::CalendarOver => "the calendar is over",
             Refusal::OpeningMonth => "the opening month is not in January 2014 to December 2999",
             Refusal::MeterKind => "the billing meter is not of kind 1 or 2, or the control meter not of kind 0 to 2",
-            Refusal::Basis => "the basis is not 1 to 3, or its power is not 1 to 1,000,000",
+            Refusal::Basis => "the basis is not 1 to 3, or on basis 1 or 2 the power is not 1 to 1,000,000",
             Refusal::CableValue => "a value of the cable is outside its limits",
             Refusal::Currents => "the list of currents is empty, too long or holds a wrong current, or lacks the place",
             Refusal::NoSuchMeter => {
@@ -135,7 +138,7 @@ impl Refusal {
             Refusal::Reason => "the reason of the failure is not 1 to 4",
             Refusal::InService => "the point is in service already",
             Refusal::TwoDenials => "access was denied twice already",
-            Refusal::NoDenial => "access was not denied",
+            Refusal::NoDenial => "there is no denial",
             Refusal::MarkCount => "there are not as many marks as the month has hours",
             Refusal::Mark => "a mark is above 3",
             Refusal::PeakHours => "a day has over 16 peak hours",

@@ -6,7 +6,7 @@ mod refusals;
 mod refused;
 mod year;
 
-use sallowbingo::{basis, mark, meter, open, Cable, Closing, Contract, Date, Kw, Record, Refusal, ROW, STORE};
+use sallowbingo::{basis, mark, meter, open, Cable, Contract, Date, Figures, Kw, Record, Refusal, ROW, STORE};
 
 const NO_CABLE: Cable = Cable { amperes: 0, volts: 0, cosine: 0, phases: 0 };
 
@@ -44,7 +44,7 @@ impl Point {
         Point { record, store, hours: vec![7; ROW] }
     }
 
-    fn close(&mut self, marks: &[u8]) -> Result<Closing, Refusal> {
+    fn close(&mut self, marks: &[u8]) -> Result<Figures, Refusal> {
         self.record.close(&mut self.store, marks, &mut self.hours)
     }
 

@@ -2,7 +2,7 @@
 //! capacity hours, d the working days and n the peak hours.
 
 use super::{day, working_day, Point, AGREED, CABLE};
-use sallowbingo::{basis, mark, open, reason, source, Closing, Contract, Date, Kw, Kwh, Refusal, ROW, STORE};
+use sallowbingo::{basis, mark, open, reason, source, Contract, Date, Figures, Kw, Kwh, Refusal, ROW, STORE};
 
 /// What a closing has to give.
 struct Month {
@@ -17,7 +17,7 @@ impl Point {
     /// Closes on the marks: the figures, the hours by days, and the run and the total after it.
     fn closes(&mut self, marks: &[u8], month: Month, days: &[[u32; 24]], run: u32, total: u64) {
         let Month { ground, volume, sum, days: d, capacity } = month;
-        let expected = Closing { ground, volume: Kwh(volume), capacity: Kw(capacity), sum: Kwh(sum), days: d };
+        let expected = Figures { ground, volume: Kwh(volume), capacity: Kw(capacity), sum: Kwh(sum), days: d };
         assert_eq!(self.close(marks), Ok(expected));
         let mut hours = days.concat();
         assert_eq!(hours.len(), marks.len());
