@@ -32,13 +32,13 @@
 //! let mut marks = [mark::ORDINARY; 24 * 28];
 //! marks[10] = mark::BOTH;
 //! let mut hours = [0; ROW];
-//! let closing = point.close(&mut store, &marks, &mut hours)?;
+//! let figures = point.close(&mut store, &marks, &mut hours)?;
 //!
 //! // Ground 5: no billing reading and no past, so the volume goes by the peak rule, with the power in the peak hour
 //! // and the other 4,900 kWh over the other 671 hours.
-//! assert_eq!(closing.ground, 5);
-//! assert_eq!(closing.volume, Kwh(5_000));
-//! assert_eq!(closing.capacity, Kw(100));
+//! assert_eq!(figures.ground, 5);
+//! assert_eq!(figures.volume, Kwh(5_000));
+//! assert_eq!(figures.capacity, Kw(100));
 //! assert_eq!(hours[10], 100);
 //! assert_eq!(hours[11..672].iter().max(), Some(&8));
 //!
