@@ -114,12 +114,16 @@ static void kinds(void) {
     CHECK(asked(c) == ACCEPTED);
 }
 
+static uint32_t billing_hours(record r, size_t count) {
+    return sallowbingo_read_billing_hours(r, store, SALLOWBINGO_STORE, hours, count).refusal;
+}
+
+/* A reading whose last hour is that one. */
 static uint32_t read_hours(uint32_t last) {
-    record r = january();
     hours[HOURS - 1] = last;
-    answer a = sallowbingo_read_billing_hours(r, store, SALLOWBINGO_STORE, hours, HOURS);
+    uint32_t refusal = billing_hours(january(), HOURS);
     hours[HOURS - 1] = 0;
-    return a.refusal;
+    return refusal;
 }
 
 static void readings(void) {
@@ -154,10 +158,6 @@ static void reasons(void) {
     CHECK(SALLOWBINGO_FAILURE_LOSS == 2 && SALLOWBINGO_FAILURE_VERIFICATION == 3); /* as document 01 numbers them */
     CHECK(fault_of(SALLOWBINGO_FAILURE_FAULT - 1) == REFUSED_AS(REASON));
     CHECK(fault_of(SALLOWBINGO_FAILURE_TAKEN_DOWN + 1) == REFUSED_AS(REASON));
-}
-
-static uint32_t billing_hours(record r, size_t count) {
-    return sallowbingo_read_billing_hours(r, store, SALLOWBINGO_STORE, hours, count).refusal;
 }
 
 /* Calls that come at the wrong time, or with a wrong count. */

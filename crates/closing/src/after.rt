@@ -37,7 +37,7 @@ fn past_after(new: bool, p: Past, d: Date) -> Past
 
 // The next month opens, with no readings; the total grows by the volume, and the run is 0 where the month becomes the
 // past and else grows by 1.
-pub fn point_after(r: Record, new: bool, volume: Kwh) -> Record
+pub(crate) fn point_after(r: Record, new: bool, volume: Kwh) -> Record
     requires { ⌜ (isMonth (r .date) ≡ true) × (r .service .run ≤ 12000) × (r .total .0 ≤ 30000000000000) × (volume .0 ≤ 2232000000) ⌝ }
     ensures { λ t. ⌜ t ≡ pointAfter new (volume .0) r ⌝ }
 {
@@ -66,7 +66,7 @@ fn keep_hours(store: &mut [u32], new: bool, row: usize, hours: &[u32])
 }
 
 // The same, and rows 12 and 13 clear.
-pub fn store_after(store: &mut [u32], new: bool, d: Date, hours: &[u32])
+pub(crate) fn store_after(store: &mut [u32], new: bool, d: Date, hours: &[u32])
     requires { ⌜ (length (now store) ≡ 10416) × (isMonth d ≡ true) × (length (now hours) ≡ 744) ⌝ }
     ensures { λ _. ⌜ now (store .exit) ≡ storeAfter new (now (hours .entry)) d (now (store .entry)) ⌝ }
 {

@@ -21,7 +21,7 @@ use units::Kw;
 use units::Kwh;
 
 // The hours of a row as read; the volume is their sum.
-pub fn as_read(ground: u32, store: &[u32], row: usize, t: usize, hours: &mut [u32]) -> Found
+pub(crate) fn as_read(ground: u32, store: &[u32], row: usize, t: usize, hours: &mut [u32]) -> Found
     requires { ⌜ Lent (now store) (now hours) t × (row ≤ 13) ⌝ }
     ensures { λ f. ⌜ Hands ground (sum (rowPart (now (store .entry)) row t)) (rowPart (now (store .entry)) row t) f (now (hours .exit)) ⌝ }
 {
@@ -47,7 +47,7 @@ fn copy_past(past: &[u32], t: usize, hours: &mut [u32])
 
 // The hours of the past, whose T' hours (`past`) stand at the front of a row, for a month of t hours; the volume is their
 // sum.
-pub fn as_past(
+pub(crate) fn as_past(
     ground: u32,
     store: &[u32],
     row: usize,
@@ -72,7 +72,7 @@ pub fn as_past(
 }
 
 // A volume shared by the past, whose T' hours (`past`) stand at the front of a row, over a month of t hours.
-pub fn by_past(
+pub(crate) fn by_past(
     ground: u32,
     volume: Kwh,
     store: &[u32],
@@ -94,7 +94,13 @@ pub fn by_past(
 }
 
 // A volume by the peak rule.
-pub fn by_peaks(ground: u32, volume: Kwh, power: Kw, marks: &[u8], hours: &mut [u32]) -> Found
+pub(crate) fn by_peaks(
+    ground: u32,
+    volume: Kwh,
+    power: Kw,
+    marks: &[u8],
+    hours: &mut [u32],
+) -> Found
     requires { ⌜ (volume .0 ≤ 744000000) × (1 ≤ length (now marks)) × (length (now marks) ≤ 744) × (length (now hours) ≡ 744) ⌝ }
     ensures { λ f. ⌜ Hands ground (volume .0) (peakRule (volume .0) (power .0) (now (marks .entry))) f (now (hours .exit)) ⌝ }
 {
@@ -106,7 +112,7 @@ pub fn by_peaks(ground: u32, volume: Kwh, power: Kw, marks: &[u8], hours: &mut [
 }
 
 // A volume evenly over a month of t hours.
-pub fn evenly(ground: u32, volume: Kwh, t: usize, hours: &mut [u32]) -> Found
+pub(crate) fn evenly(ground: u32, volume: Kwh, t: usize, hours: &mut [u32]) -> Found
     requires { ⌜ (volume .0 ≤ 744000000) × (1 ≤ t) × (t ≤ 744) × (length (now hours) ≡ 744) ⌝ }
     ensures { λ f. ⌜ Hands ground (volume .0) (shares (volume .0) (ones t)) f (now (hours .exit)) ⌝ }
 {

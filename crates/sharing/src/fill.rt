@@ -12,7 +12,14 @@ use super::weights::weight_chosen;
 use super::weights::weight_other;
 
 // The hours of a sharing by the past that has not begun.
-pub fn fill_by_past(s: u64, k: u64, p: Progress, past: &[u32], chosen: &[bool], hours: &mut [u32])
+pub(crate) fn fill_by_past(
+    s: u64,
+    k: u64,
+    p: Progress,
+    past: &[u32],
+    chosen: &[bool],
+    hours: &mut [u32],
+)
     requires { ⌜ Totals (now past) (now chosen) s k ⌝ }
     requires { ⌜ Under (p .volume) (length (now chosen)) (taken (length (now chosen)) (chosenAt (now chosen)) (pastAt (now past))) p 0 ⌝ }
     requires { ⌜ length (now chosen) ≤ length (now hours) ⌝ }
@@ -33,7 +40,7 @@ pub fn fill_by_past(s: u64, k: u64, p: Progress, past: &[u32], chosen: &[bool], 
 }
 
 // The hours of an even sharing that has not begun.
-pub fn fill_evenly(k: u64, p: Progress, chosen: &[bool], hours: &mut [u32])
+pub(crate) fn fill_evenly(k: u64, p: Progress, chosen: &[bool], hours: &mut [u32])
     requires { ⌜ Counts (now chosen) k ⌝ }
     requires { ⌜ Under (p .volume) (length (now chosen)) (taken (length (now chosen)) (chosenAt (now chosen)) one) p 0 ⌝ }
     requires { ⌜ length (now chosen) ≤ length (now hours) ⌝ }
@@ -53,7 +60,14 @@ pub fn fill_evenly(k: u64, p: Progress, chosen: &[bool], hours: &mut [u32])
 }
 
 // The hours of two even sharings that have not begun: one over the chosen hours, of which there are k, one over the m others.
-pub fn fill_apart(k: u64, m: u64, p: Progress, q: Progress, chosen: &[bool], hours: &mut [u32])
+pub(crate) fn fill_apart(
+    k: u64,
+    m: u64,
+    p: Progress,
+    q: Progress,
+    chosen: &[bool],
+    hours: &mut [u32],
+)
     requires { ⌜ Counts (now chosen) k × Others (now chosen) m ⌝ }
     requires { ⌜ Under (p .volume) (length (now chosen)) (taken (length (now chosen)) (chosenAt (now chosen)) one) p 0 ⌝ }
     requires { ⌜ Under (q .volume) (length (now chosen)) (taken (length (now chosen)) (otherAt (now chosen)) one) q 0 ⌝ }

@@ -33,7 +33,7 @@ fn taken_first(s: u64, weights: &[u32], n: usize) -> u64
 }
 
 // The share of one place where the numbers fit.
-pub fn at_place(v: u64, s: u64, weights: &[u32], place: usize) -> u64
+pub(crate) fn at_place(v: u64, s: u64, weights: &[u32], place: usize) -> u64
     requires { ⌜ Placed v s (now weights) place ⌝ }
     ensures { λ r. ⌜ r ≡ at (shares v (now (weights .entry))) place ⌝ }
 {

@@ -12,7 +12,7 @@ pub struct Progress {
 }
 
 // The quotient of the rule: what of v falls to weights of a out of s.
-pub fn portion_of(v: u64, a: u64, s: u64) -> u64
+pub(crate) fn portion_of(v: u64, a: u64, s: u64) -> u64
     requires { ⌜ Divides v a s ⌝ }
     ensures { λ r. ⌜ r ≡ portion v a s ⌝ }
 {
@@ -20,7 +20,7 @@ pub fn portion_of(v: u64, a: u64, s: u64) -> u64
 }
 
 // A sharing before its first hour, by weights that sum to s.
-pub fn start(v: u64, s: u64) -> Progress
+pub(crate) fn start(v: u64, s: u64) -> Progress
     ensures { λ r. ⌜ r ≡ started v s ⌝ }
 {
     Progress {
@@ -32,7 +32,7 @@ pub fn start(v: u64, s: u64) -> Progress
 }
 
 // One hour on, of weight w. An hour of weight 0 needs no division.
-pub fn step(p: Progress, w: u64) -> Progress
+pub(crate) fn step(p: Progress, w: u64) -> Progress
     requires { ⌜ Ready p w ⌝ }
     ensures { λ r. ⌜ r ≡ stepped p w ⌝ }
 {
@@ -50,7 +50,7 @@ pub fn step(p: Progress, w: u64) -> Progress
 }
 
 // What an hour gets, between the sharing before it and after it.
-pub fn gain(p: Progress, q: Progress) -> u32
+pub(crate) fn gain(p: Progress, q: Progress) -> u32
     requires { ⌜ Gains p q ⌝ }
     ensures { λ r. ⌜ Gained p q r ⌝ }
 {

@@ -57,7 +57,7 @@ fn chosen_past(past: &[u32], chosen: &[bool], h: usize) -> u64
 }
 
 // The number of chosen hours, counted in 32 bits, so that the loop takes more flags at a time.
-pub fn count(chosen: &[bool]) -> u64
+pub(crate) fn count(chosen: &[bool]) -> u64
     requires { ⌜ length (now chosen) ≤ 744 ⌝ }
     ensures { λ r. ⌜ Counts (now (chosen .entry)) r ⌝ }
 {
@@ -71,7 +71,7 @@ pub fn count(chosen: &[bool]) -> u64
 }
 
 // The sum of the past's weights in the chosen hours.
-pub fn total(past: &[u32], chosen: &[bool]) -> u64
+pub(crate) fn total(past: &[u32], chosen: &[bool]) -> u64
     requires { ⌜ length (now chosen) ≤ 744 ⌝ }
     ensures { λ r. ⌜ r ≡ sumTo (within (chosenAt (now (chosen .entry))) (pastAt (now (past .entry)))) (length (now (chosen .entry))) ⌝ }
 {
@@ -85,7 +85,7 @@ pub fn total(past: &[u32], chosen: &[bool]) -> u64
 }
 
 // The weight by which hour h is taken: s is the sum of the past's weights in the chosen hours, and k their number.
-pub fn weight_by_past(s: u64, k: u64, past: &[u32], chosen: &[bool], h: usize) -> u64
+pub(crate) fn weight_by_past(s: u64, k: u64, past: &[u32], chosen: &[bool], h: usize) -> u64
     requires { ⌜ h < length (now chosen) ⌝ }
     requires { ⌜ Totals (now past) (now chosen) s k ⌝ }
     ensures { λ r. ⌜ r ≡ taken (length (now (chosen .entry))) (chosenAt (now (chosen .entry))) (pastAt (now (past .entry))) h ⌝ }
@@ -101,7 +101,7 @@ fn even_weight(k: u64, chosen: bool) -> u64
 }
 
 // The weight by which hour h is taken in an even sharing over the k chosen hours.
-pub fn weight_chosen(k: u64, chosen: &[bool], h: usize) -> u64
+pub(crate) fn weight_chosen(k: u64, chosen: &[bool], h: usize) -> u64
     requires { ⌜ (h < length (now chosen)) × Counts (now chosen) k ⌝ }
     ensures { λ r. ⌜ r ≡ taken (length (now (chosen .entry))) (chosenAt (now (chosen .entry))) one h ⌝ }
 {
@@ -109,7 +109,7 @@ pub fn weight_chosen(k: u64, chosen: &[bool], h: usize) -> u64
 }
 
 // The same over the m others.
-pub fn weight_other(m: u64, chosen: &[bool], h: usize) -> u64
+pub(crate) fn weight_other(m: u64, chosen: &[bool], h: usize) -> u64
     requires { ⌜ (h < length (now chosen)) × Others (now chosen) m ⌝ }
     ensures { λ r. ⌜ r ≡ taken (length (now (chosen .entry))) (otherAt (now (chosen .entry))) one h ⌝ }
 {

@@ -12,4 +12,4 @@ discard-spec =
     (λ c κs. search needs)
     (λ c κs. search needs)
     (λ c. search needs)
-    (λ c. (rw (c .before .with-billing .ensures, c .before .before .not-given .ensures) at (c .answer-with .ensures), c .before .before .before .before .before .clear-row .ensures)))
+    (λ c. (rw (c .before .with-billing .ensures, c .before .before .not-given .ensures) at (c .answer-with .ensures), rw (c .before .before .before .before .before .clear-row .ensures))))

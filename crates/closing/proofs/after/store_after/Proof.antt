@@ -17,4 +17,4 @@ store-after-spec =
     (λ c κs. search needs)
     (λ c κs. search needs)
     (λ c. search needs)
-    (λ c. let a = c .before .before .before .before .before .before .before .before .before .before .before .before .before .before .before .args in let p = c .before .before .before .before .before .before .before .before .before .before .before .before .before .before .before .pre in store-is (a .new) (a .d) (now (a .hours)) (now (a .store)) (p .0) (p .1) (p .2) (c .before .before .before .before .before .before .before .before .before .before .keep-hours .ensures) (c .before .before .before .before .before .before .clear-row .ensures) (c .before .before .clear-row2 .ensures)))
+    (λ c. let a = c .before .before .before .before .before .before .before .before .before .before .before .before .before .before .before .args in let p = c .before .before .before .before .before .before .before .before .before .before .before .before .before .before .before .pre in store-is (a .new) (a .d) (now (a .hours)) (now (a .store)) (p .0) (p .1) (p .2) (c .before .before .before .before .before .before .before .before .before .before .keep-hours .ensures) (rw (c .before .before .before .before .before .before .clear-row .ensures)) (c .before .before .clear-row2 .ensures)))
