@@ -55,10 +55,10 @@ fn same<T: PartialEq + Debug>(what: &str, kernel: T, reference: T) -> Result<(),
 }
 
 fn same_words(what: &str, kernel: &[u32], reference: &[u32]) -> Result<(), String> {
-    same(&format!("length of {what}"), kernel.len(), reference.len())?;
     if kernel == reference {
         return Ok(());
     }
+    same(&format!("length of {what}"), kernel.len(), reference.len())?;
     let at = kernel.iter().zip(reference).position(|(k, r)| k != r).unwrap_or(0);
     same(&format!("{what}, word {at}"), kernel[at], reference[at])
 }
