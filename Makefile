@@ -2,6 +2,8 @@
 # make install    installs header, archive and pkg-config file under PREFIX; builds only if there is no archive at all
 # make uninstall  removes them
 # make check      runs every test
+# make settle     builds the program target/bin/settle with the Rattle kit
+# make play       builds it and plays a sample with its sheets: make play SAMPLE=denials
 PREFIX ?= /usr/local
 INCLUDEDIR ?= $(PREFIX)/include
 LIBDIR ?= $(PREFIX)/lib
@@ -14,7 +16,7 @@ archive := target/lib/libsallowbingo.a
 installed := "$(DESTDIR)$(INCLUDEDIR)/sallowbingo.h" "$(DESTDIR)$(LIBDIR)/libsallowbingo.a" \
     "$(DESTDIR)$(LIBDIR)/pkgconfig/sallowbingo.pc"
 
-.PHONY: all install uninstall check
+.PHONY: all install uninstall check settle play
 .DELETE_ON_ERROR:
 
 all: $(archive)
@@ -51,3 +53,16 @@ uninstall:
 
 check:
 	tools/test
+
+SAMPLE ?= three-months
+program := target/bin/settle
+
+# rt check also runs the program on crates/settle/stdin and compares what it prints.
+$(program): $(sources)
+	rt check settle
+	touch $@
+
+settle: $(program)
+
+play: $(program)
+	$(program) samples/$(SAMPLE).txt

@@ -37,7 +37,7 @@ use units::Kwh;
 use units::energy;
 
 // R: the run plus 1, and 3 if that is less while denials are 2.
-fn counted(s: Service) -> u32
+pub fn counted(s: Service) -> u32
     requires { ⌜ s .run ≤ 12000 ⌝ }
     ensures { λ n. ⌜ n ≡ countedOf (s .run) (s .denials) ⌝ }
 {
@@ -46,7 +46,7 @@ fn counted(s: Service) -> u32
 }
 
 // N: the first neighbour reading if given, else the second, else 0.
-fn neighbour_volume(g: Readings) -> Kwh
+pub fn neighbour_volume(g: Readings) -> Kwh
     ensures { λ v. ⌜ v .0 ≡ neighbourOf (statedIn (g .first)) (statedIn (g .second)) ⌝ }
 {
     let second = pick_wide(g.second.given == 1, g.second.volume.0, 0);
@@ -54,7 +54,7 @@ fn neighbour_volume(g: Readings) -> Kwh
 }
 
 // A reading less N, and 0 where that is below 0.
-fn less(volume: Kwh, neighbour: Kwh) -> Kwh
+pub fn less(volume: Kwh, neighbour: Kwh) -> Kwh
     ensures { λ v. ⌜ v .0 ≡ volume .0 - neighbour .0 ⌝ }
 {
     if neighbour.0 < volume.0 {
@@ -64,7 +64,7 @@ fn less(volume: Kwh, neighbour: Kwh) -> Kwh
 }
 
 // P of the contract.
-fn point_power(c: Contract) -> Kw
+pub fn point_power(c: Contract) -> Kw
     requires { ⌜ (c .basis ≡ 3 → cableFits (c .cable) ≡ true) ⌝ }
     ensures { λ p. ⌜ p .0 ≡ powerOf c ⌝ }
 {

@@ -39,6 +39,14 @@ fn closing_refusal(r: Record, store: &[u32], marks: &[u8], survey: Survey, hours
     refuse_anyone(store.len(), r, n)
 }
 
+// The same, with the marks surveyed first.
+pub fn refuse_closing(r: Record, store: &[u32], marks: &[u8], hours: &[u32]) -> u32
+    ensures { λ n. ⌜ n ≡ refusal (state r (now (store .entry))) (closing (now (marks .entry)) (now (hours .entry))) ⌝ }
+{
+    let survey = survey_marks(marks);
+    closing_refusal(r, store, marks, survey, hours)
+}
+
 // The figures of a closing, with C and d, and capacity from them.
 fn figures_of(found: Found, sum: Kwh, days: u64) -> Figures
     ensures { λ g. ⌜

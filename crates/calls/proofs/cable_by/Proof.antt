@@ -1,0 +1,18 @@
+use borrow.Author.Needs.{needs}
+use Rattle.calls.specs.Calls.{cableBy}
+use Rattle.calls.proofs.cable_by.Statement.{statement}
+use Rattle.calls.proofs.cable_by.Tie as tie
+
+returns : tie.Need-returns
+unfolding cableBy
+returns c = cc
+
+pub cable-by-spec : {M : Type 1} → statement M
+cable-by-spec =
+    tie.close
+    (tie.spec
+    (λ c κs. search needs)
+    (λ c κs. search needs)
+    (λ c κs. search needs)
+    (λ c κs. search needs)
+    returns)

@@ -1,0 +1,34 @@
+use borrow.Author.Needs.{needs}
+use borrow.Author.Tests.{eq-eqb, ne-eqb}
+use Rattle.lines.specs.Buffers.{placeFor}
+use Rattle.lines.proofs.buffers.place_for.Statement.{statement}
+use Rattle.lines.proofs.buffers.place_for.Tie as tie
+
+returns : tie.Need-returns
+unfolding placeFor
+returns c = rw (c .before .if1 .taken, c .if2 .taken)
+
+returns-2 : tie.Need-returns-2
+unfolding placeFor
+returns-2 c = rw (c .before .if1 .taken, c .if2 .left)
+
+returns-3 : tie.Need-returns-3
+unfolding placeFor
+returns-3 c = rw (c .before .if1 .left, eq-eqb _ _ (c .if3 .taken))
+
+returns-4 : tie.Need-returns-4
+unfolding placeFor
+returns-4 c = rw (c .before .if1 .left, ne-eqb _ _ (c .if3 .left))
+
+pub place-for-spec : {M : Type 1} → statement M
+place-for-spec =
+    tie.close
+    (tie.spec
+    (λ c. search needs)
+    (λ c. search needs)
+    (λ c. search needs)
+    returns
+    returns-2
+    returns-3
+    (λ c. search needs)
+    returns-4)

@@ -1,0 +1,31 @@
+use borrow.Author.Needs.{needs}
+use borrow.Author.Tests.{lt-ltb, le-ltb}
+use Rattle.lines.specs.Modes.{adding}
+use Rattle.lines.proofs.lists.add_number.Statement.{statement}
+use Rattle.lines.proofs.lists.add_number.Tie as tie
+
+returns : tie.Need-returns
+unfolding adding
+returns c = rw (lt-ltb _ _ (c .before .if1 .taken)) (cc)
+
+returns-2 : tie.Need-returns-2
+unfolding adding
+returns-2 c = rw (← c .before .before .together .ensures, le-ltb _ _ (c .before .before .before .if1 .left), lt-ltb _ _ (c .before .if2 .taken)) (cc)
+
+returns-3 : tie.Need-returns-3
+unfolding adding
+returns-3 c = rw (← c .before .before .before .before .before .together .ensures, le-ltb _ _ (c .before .before .before .before .before .before .if1 .left), le-ltb _ _ (c .before .before .before .before .if2 .left)) (cc)
+
+pub add-number-spec : {M : Type 1} → statement M
+add-number-spec =
+    tie.close
+    (tie.spec
+    (λ c κs. search needs)
+    returns
+    (λ c κs. search needs)
+    (λ c κs. search needs)
+    returns-2
+    (λ c κs. search needs)
+    (λ c κs. search needs)
+    (λ c κs. search needs)
+    returns-3)

@@ -1,0 +1,45 @@
+use borrow.Author.Needs.{needs}
+use borrow.Author.Tests.{eq-eqb, ne-eqb, lt-ltb, le-ltb}
+use Rattle.lines.specs.Modes.{closing}
+use Rattle.lines.proofs.lists.close_group.Statement.{statement}
+use Rattle.lines.proofs.lists.close_group.Tie as tie
+
+returns : tie.Need-returns
+unfolding closing
+returns c = rw (eq-eqb _ _ (c .before .before .before .if1 .taken), ne-eqb _ _ (c .before .if2 .taken)) (cc)
+
+returns-2 : tie.Need-returns-2
+unfolding closing
+returns-2 c = rw (eq-eqb _ _ (c .before .before .before .if1 .taken), eq-eqb _ _ (c .before .if2 .left)) (cc)
+
+returns-3 : tie.Need-returns-3
+unfolding closing
+returns-3 c = rw (ne-eqb _ _ (c .before .before .before .before .if1 .left), c .before .if3 .taken) (cc)
+
+returns-4 : tie.Need-returns-4
+unfolding closing
+returns-4 c = rw (← c .before .before .before .before .pick .ensures, ← c .before .before .before .pick2 .ensures, ← c .before .before .repeated .ensures, ne-eqb _ _ (c .before .before .before .before .before .before .before .before .before .if1 .left), c .before .before .before .before .before .before .if3 .left, lt-ltb _ _ (c .before .if4 .taken)) (cc)
+
+returns-5 : tie.Need-returns-5
+unfolding closing
+returns-5 c = rw (← c .before .before .before .before .before .before .pick .ensures, ← c .before .before .before .before .before .pick2 .ensures, ← c .before .before .before .before .repeated .ensures, ← c .before .before .pick3 .ensures, ne-eqb _ _ (c .before .before .before .before .before .before .before .before .before .before .before .if1 .left), c .before .before .before .before .before .before .before .before .if3 .left, le-ltb _ _ (c .before .before .before .if4 .left)) (cc)
+
+pub close-group-spec : {M : Type 1} → statement M
+close-group-spec =
+    tie.close
+    (tie.spec
+    (λ c κs. search needs)
+    returns
+    (λ c κs. search needs)
+    returns-2
+    (λ c κs. search needs)
+    returns-3
+    (λ c κs. search needs)
+    (λ c κs. search needs)
+    (λ c κs. search needs)
+    (λ c κs. search needs)
+    returns-4
+    (λ c κs. search needs)
+    (λ c κs. search needs)
+    (λ c κs. search needs)
+    returns-5)

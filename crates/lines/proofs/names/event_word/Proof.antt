@@ -1,0 +1,20 @@
+use borrow.Author.Needs.{needs}
+use Rattle.lines.specs.Names.{eventWord}
+use Rattle.lines.proofs.names.event_word.Statement.{statement}
+use Rattle.lines.proofs.names.event_word.Tie as tie
+
+returns : tie.Need-returns
+unfolding eventWord
+returns c = cc
+
+pub event-word-spec : {M : Type 1} → statement M
+event-word-spec =
+    tie.close
+    (tie.spec
+    (λ c κs. search needs)
+    (λ c κs. search needs)
+    (λ c κs. search needs)
+    (λ c κs. search needs)
+    (λ c κs. search needs)
+    (λ c κs. search needs)
+    returns)

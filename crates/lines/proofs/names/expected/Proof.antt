@@ -1,0 +1,18 @@
+use borrow.Author.Needs.{needs}
+use Rattle.lines.specs.Names.{expectedFor}
+use Rattle.lines.proofs.names.expected.Statement.{statement}
+use Rattle.lines.proofs.names.expected.Tie as tie
+
+returns : tie.Need-returns
+unfolding expectedFor
+returns c = cc
+
+pub expected-spec : {M : Type 1} → statement M
+expected-spec =
+    tie.close
+    (tie.spec
+    (λ c κs. search needs)
+    (λ c κs. search needs)
+    (λ c κs. search needs)
+    (λ c κs. search needs)
+    returns)

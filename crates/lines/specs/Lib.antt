@@ -1,0 +1,5 @@
+pub mod Changes
+pub mod Names
+pub mod Modes
+pub mod Buffers
+pub mod Lines

@@ -1,0 +1,117 @@
+// The options of the command.
+use libc::STDOUT_FILENO;
+
+// Whether help was asked for or an option is unknown, whether the answers are for programs, whether the hours are printed,
+// and how many files there are.
+pub struct Options {
+    pub help: bool,
+    pub tab: bool,
+    pub table: bool,
+    pub files: usize,
+}
+
+// Whether two texts are the same.
+fn same(a: &[u8], b: &[u8]) -> bool {
+    if a.len() != b.len() {
+        return false;
+    }
+    let mut k = 0;
+    while k < b.len() {
+        if k < a.len() {
+            if a[k] != b[k] {
+                return false;
+            }
+        }
+        k += 1;
+    }
+    true
+}
+
+// Whether an argument is an option: it starts with a dash.
+pub fn is_option(word: &[u8]) -> bool {
+    if word.len() < 2 {
+        return false;
+    }
+    word[0] == 45
+}
+
+// The options with one argument more.
+fn with_argument(o: Options, word: &[u8]) -> Options {
+    let mut r = o;
+    if !is_option(word) {
+        if o.files < 1000000000 {
+            r.files = o.files + 1;
+        }
+        return r;
+    }
+    if same(word, b"--tab") {
+        r.tab = true;
+        return r;
+    }
+    if same(word, b"--hours") {
+        r.table = true;
+        return r;
+    }
+    r.help = true;
+    r
+}
+
+// The options with argument i of the command.
+fn with_place(o: Options, i: usize) -> Options {
+    let mut word = io::buffer();
+    let n = os::arg(i, &mut word);
+    with_argument(o, &word[..n])
+}
+
+// The options of the command, wherever they stand.
+pub fn find_options() -> Options {
+    let mut o = Options {
+        help: false,
+        tab: false,
+        table: false,
+        files: 0,
+    };
+    let n = os::arg_count();
+    let mut i = 1;
+    while i < n {
+        o = with_place(o, i);
+        i += 1;
+    }
+    o
+}
+
+pub fn print_help() {
+    io::write_all(STDOUT_FILENO, b"settle [--hours] [--tab] [FILE ..]\n\n");
+    io::write_all(
+        STDOUT_FILENO,
+        b"Plays histories of a delivery point, one call a line, and prints what each call answers: accepted,\n",
+    );
+    io::write_all(
+        STDOUT_FILENO,
+        b"or refused with its number; for each closed month a sheet that says how its volume was found.\n",
+    );
+    io::write_all(
+        STDOUT_FILENO,
+        b"Without a file, or for the file -, it plays standard input. Each file is a history of its own.\n\n",
+    );
+    io::write_all(
+        STDOUT_FILENO,
+        b"    --hours   also print the hours of each closed month, a row a day\n",
+    );
+    io::write_all(
+        STDOUT_FILENO,
+        b"    --tab     print records for programs: a word, then numbers, each behind a tab\n",
+    );
+    io::write_all(STDOUT_FILENO, b"    --help    print this\n\n");
+    io::write_all(STDOUT_FILENO, b"A history:\n\n");
+    io::write_all(
+        STDOUT_FILENO,
+        b"    open 2023-01 billing interval control none basis agreed power 100\n",
+    );
+    io::write_all(STDOUT_FILENO, b"    billing hours 31*(8*20 12*60 4*20)\n");
+    io::write_all(STDOUT_FILENO, b"    close week (8*0 3 11*1 4*0) (24*0)\n\n");
+    io::write_all(
+        STDOUT_FILENO,
+        b"docs/HISTORY-FILE.md has the grammar, samples/ a history for each lesson.\n",
+    );
+}

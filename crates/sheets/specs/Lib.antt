@@ -1,0 +1,2 @@
+pub mod Charts
+pub mod Text

@@ -1,0 +1,22 @@
+use borrow.Author.Needs.{needs}
+use Rattle.tokens.specs.Tokens.{classOf}
+use Rattle.tokens.proofs.class_of.Statement.{statement}
+use Rattle.tokens.proofs.class_of.Tie as tie
+
+returns : tie.Need-returns
+unfolding classOf
+returns c = cc
+
+pub class-of-spec : {M : Type 1} → statement M
+class-of-spec =
+    tie.close
+    (tie.spec
+    (λ c κs. search needs)
+    (λ c κs. search needs)
+    (λ c κs. search needs)
+    (λ c κs. search needs)
+    (λ c κs. search needs)
+    (λ c κs. search needs)
+    (λ c κs. search needs)
+    (λ c κs. search needs)
+    returns)

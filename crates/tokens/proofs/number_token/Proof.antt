@@ -1,0 +1,22 @@
+use borrow.Author.Needs.{needs}
+use Rattle.tokens.specs.Tokens.{numberToken}
+use Rattle.tokens.proofs.number_token.Statement.{statement}
+use Rattle.tokens.proofs.number_token.Tie as tie
+
+returns : tie.Need-returns
+unfolding numberToken
+returns c = cc
+
+pub number-token-spec : {M : Type 1} → statement M
+number-token-spec =
+    tie.close
+    (tie.spec
+    (λ c κs. search needs)
+    (λ c κs. search needs)
+    (λ c κs. search needs)
+    (λ c κs. search needs)
+    (λ c κs. search needs)
+    (λ c κs. search needs)
+    (λ c κs. search needs)
+    (λ c κs. search needs)
+    returns)

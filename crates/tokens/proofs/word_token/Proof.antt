@@ -1,0 +1,18 @@
+use borrow.Author.Needs.{needs}
+use Rattle.tokens.specs.Tokens.{wordToken}
+use Rattle.tokens.proofs.word_token.Statement.{statement}
+use Rattle.tokens.proofs.word_token.Tie as tie
+
+returns : tie.Need-returns
+unfolding wordToken
+returns c = cc
+
+pub word-token-spec : {M : Type 1} → statement M
+word-token-spec =
+    tie.close
+    (tie.spec
+    (λ c κs. search needs)
+    (λ c κs. search needs)
+    (λ c κs. search needs)
+    (λ c κs. search needs)
+    returns)
