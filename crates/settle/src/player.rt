@@ -1,6 +1,8 @@
 // One line of a history: read, its call made on the point, its answer written.
 ghost use mathlib.Core.Path.{_≡_};
-ghost use lib.ListN.{length};
+ghost use Rattle.numbers.specs.Lists.{zeros};
+ghost use Rattle.model.specs.Model.{state};
+ghost use Rattle.settle.specs.Played.{callTo, madeBy, readTo, lineTo};
 use super::options::Options;
 use calendar::open_hours;
 use calls::copy_marks;
@@ -42,14 +44,14 @@ pub struct Progress {
 
 // Room for the numbers of a list.
 fn list_room() -> [u32; 4096]
-    ensures { λ r. ⌜ 4096 ≡ length r ⌝ }
+    ensures { λ r. ⌜ r ≡ zeros 4096 ⌝ }
 {
     [0; 4096]
 }
 
 // An hour buffer.
 fn hour_room() -> [u32; 744]
-    ensures { λ r. ⌜ 744 ≡ length r ⌝ }
+    ensures { λ r. ⌜ r ≡ zeros 744 ⌝ }
 {
     [0; 744]
 }
@@ -93,7 +95,9 @@ pub fn flush(p: Progress, out: &[u8], all: bool) -> Progress {
 }
 
 // A line that is no call.
-pub fn bad_line(p: Progress, o: Options, out: &mut [u8], column: u64, error: u32) -> Progress {
+pub fn bad_line(p: Progress, o: Options, out: &mut [u8], column: u64, error: u32) -> Progress
+    ensures { λ r. ⌜ r .record ≡ p .record ⌝ }
+{
     let at = put_bad_line(out, p.at, o.tab, p.line, column, error);
     let errors = one_more(p.counts.errors);
     let mut r = p;
@@ -128,7 +132,9 @@ fn put_file(name: &[u8], o: Options, out: &mut [u8], place: usize, file: u64) ->
 }
 
 // A call is answered: the record behind it, and the counts.
-fn answered(p: Progress, a: Answer) -> Progress {
+fn answered(p: Progress, a: Answer) -> Progress
+    ensures { λ r. ⌜ r .record ≡ a .after ⌝ }
+{
     let accepted = one_more(p.counts.accepted);
     let refused = one_more(p.counts.refused);
     let mut r = p;
@@ -143,10 +149,11 @@ fn answered(p: Progress, a: Answer) -> Progress {
 }
 
 // Why the open month will be closed as it is, where the marks of a list close it.
-fn why(list: &[u32], r: Record, store: &[u32], hours: &mut [u32]) -> Reasons {
+fn why(list: &[u32], r: Record, store: &[u32]) -> Reasons {
+    let mut hours = hour_room();
     let mut marks = no_marks();
     let n = copy_marks(list, &mut marks);
-    reasons_of(r, store, &marks[..n], hours)
+    reasons_of(r, store, &marks[..n], &mut hours)
 }
 
 // The sheet of a month that was closed.
@@ -169,7 +176,9 @@ fn put_closing(
     p: Progress,
     hours: &[u32],
     out: &mut [u8],
-) -> Progress {
+) -> Progress
+    ensures { λ r. ⌜ r .record ≡ a .after ⌝ }
+{
     let at = put_answer(out, p.at, o.tab, p.line, 11, a.refusal);
     let mut r = answered(p, a);
     r.at = at;
@@ -200,9 +209,11 @@ fn play_closing(
     p: Progress,
     store: &mut [u32],
     out: &mut [u8],
-) -> Progress {
+) -> Progress
+    ensures { λ r. ⌜ state (r .record) (now (store .exit)) ≡ callTo read (now (list .entry)) (state (p .record) (now (store .entry))) ⌝ }
+{
+    let why = why(list, p.record, store);
     let mut hours = hour_room();
-    let why = why(list, p.record, store, &mut hours);
     let a = make_call(read, list, p.record, store, &mut hours);
     put_closing(a, why, o, p, &hours, out)
 }
@@ -215,7 +226,9 @@ fn play_other(
     p: Progress,
     store: &mut [u32],
     out: &mut [u8],
-) -> Progress {
+) -> Progress
+    ensures { λ r. ⌜ state (r .record) (now (store .exit)) ≡ madeBy read (now (list .entry)) (state (p .record) (now (store .entry))) ⌝ }
+{
     let a = answer_of(read, list, p.record, store);
     let end = put_answer(out, p.at, o.tab, p.line, read.call, a.refusal);
     let mut r = answered(p, a);
@@ -224,7 +237,9 @@ fn play_other(
 }
 
 // The answer of such a call.
-fn answer_of(read: Line, list: &[u32], r: Record, store: &mut [u32]) -> Answer {
+fn answer_of(read: Line, list: &[u32], r: Record, store: &mut [u32]) -> Answer
+    ensures { λ a. ⌜ state (a .after) (now (store .exit)) ≡ madeBy read (now (list .entry)) (state r (now (store .entry))) ⌝ }
+{
     if read.call == 1 {
         return open_by(read, list, store);
     }
@@ -240,7 +255,9 @@ fn play_call(
     p: Progress,
     store: &mut [u32],
     out: &mut [u8],
-) -> Progress {
+) -> Progress
+    ensures { λ r. ⌜ state (r .record) (now (store .exit)) ≡ madeBy read (now (list .entry)) (state (p .record) (now (store .entry))) ⌝ }
+{
     if read.call == 11 {
         return play_closing(read, list, o, p, store, out);
     }
@@ -255,7 +272,9 @@ fn play_read(
     p: Progress,
     store: &mut [u32],
     out: &mut [u8],
-) -> Progress {
+) -> Progress
+    ensures { λ r. ⌜ state (r .record) (now (store .exit)) ≡ readTo read (now (numbers .entry)) (state (p .record) (now (store .entry))) ⌝ }
+{
     if read.error != 0 {
         let column = least(read.place as u64, 999999) + 1;
         return bad_line(p, o, out, column, read.error);
@@ -274,7 +293,9 @@ pub fn play_line(
     p: Progress,
     store: &mut [u32],
     out: &mut [u8],
-) -> Progress {
+) -> Progress
+    ensures { λ r. ⌜ state (r .record) (now (store .exit)) ≡ lineTo (now (line .entry)) (state (p .record) (now (store .entry))) ⌝ }
+{
     let date = p.record.date;
     let mut numbers = list_room();
     let mut group = list_room();

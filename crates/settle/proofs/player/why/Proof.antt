@@ -1,6 +1,6 @@
 use native.Mathlib.Omega.{arith}
-use borrow.Author.Needs.{needs}
 use lib.ListN.{length-take}
+use borrow.Author.Needs.{needs}
 use Rattle.settle.proofs.player.why.Statement.{statement}
 use Rattle.settle.proofs.player.why.Tie as tie
 
@@ -9,10 +9,11 @@ why-spec =
     tie.close
     (tie.spec
     (λ c κs. search needs)
+    (λ c κs. search needs)
     (λ c. search needs)
     (λ c κs. search needs)
     (λ c. search needs)
     (λ c. let p = c .before .before .copy-marks .ensures in simp length-take (omega (arith, p .size, p .filled .long)))
-    (λ c κs. search needs)
     (λ c. search needs)
+    (λ c κs. search needs)
     (λ c. search needs))
