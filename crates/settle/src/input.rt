@@ -7,7 +7,7 @@ use super::player::bad_line;
 use super::player::flush;
 use super::player::one_more;
 use super::player::play_line;
-use sheets::text::put;
+use text::put;
 
 // Adds bytes to a line; one with too many is too long as a whole.
 fn add_bytes(bytes: &[u8], p: Progress, line: &mut [u8]) -> Progress {
@@ -89,7 +89,7 @@ pub struct Step {
     pub progress: Progress,
 }
 
-// Reads once and plays what came.
+// Reads once, plays what came and writes the answers, so that a line that is typed is answered at once.
 fn play_some(
     fd: i32,
     o: Options,
@@ -101,7 +101,8 @@ fn play_some(
     let mut chunk = io::large_buffer();
     let got = libc::read(fd, &mut chunk);
     let n = io::count(got, &chunk);
-    let next = play_bytes(&chunk[..n], o, p, line, store, out);
+    let played = play_bytes(&chunk[..n], o, p, line, store, out);
+    let next = flush(played, out, true);
     Step {
         more: 0 < n,
         failed: got < 0,
@@ -135,7 +136,7 @@ pub fn play_input(
     s
 }
 
-// The last line of a file, where no line feed ends it, and what stands in the buffer.
+// The last line of a file, where no line feed ends it.
 pub fn end_input(
     o: Options,
     p: Progress,

@@ -15,9 +15,9 @@ use options::find_options;
 use options::is_option;
 use options::print_help;
 use player::Progress;
-use player::bad_line;
 use player::flush;
 use player::fresh_progress;
+use player::no_file;
 use player::start_file;
 use sheets::answers::put_end;
 
@@ -49,19 +49,12 @@ fn play_lines(fd: i32, o: Options, p: Progress, out: &mut [u8]) -> Step {
 }
 
 // The same, where what cannot be read is an error without a line.
-fn play_open(fd: i32, o: Options, p: Progress, out: &mut [u8]) -> Progress {
+fn play_open(name: &[u8], fd: i32, o: Options, p: Progress, out: &mut [u8]) -> Progress {
     let s = play_lines(fd, o, p, out);
     if s.failed {
-        return no_file(o, s.progress, out);
+        return no_file(name, o, s.progress, out);
     }
     s.progress
-}
-
-// A file that cannot be read.
-fn no_file(o: Options, p: Progress, out: &mut [u8]) -> Progress {
-    let mut none = p;
-    none.line = 0;
-    bad_line(none, o, out, 0, 0)
 }
 
 // Plays the file of a name, or standard input for the name -.
@@ -69,14 +62,14 @@ fn play_name(name: &[u8], o: Options, p: Progress, out: &mut [u8]) -> Progress {
     let start = start_file(name, o, p, out);
     if name.len() == 1 {
         if name[0] == 45 {
-            return play_open(STDIN_FILENO, o, start, out);
+            return play_open(name, STDIN_FILENO, o, start, out);
         }
     }
     let fd = os::open_read(name);
     if fd < 0 {
-        return no_file(o, start, out);
+        return no_file(name, o, start, out);
     }
-    let end = play_open(fd, o, start, out);
+    let end = play_open(name, fd, o, start, out);
     libc::close(fd);
     end
 }
@@ -88,7 +81,8 @@ fn play_argument(i: usize, o: Options, p: Progress, out: &mut [u8]) -> Progress 
     if is_option(&name[..n]) {
         return p;
     }
-    play_name(&name[..n], o, p, out)
+    let end = play_name(&name[..n], o, p, out);
+    flush(end, out, false)
 }
 
 // Plays the files of the command, one after the other.
@@ -124,7 +118,7 @@ fn play(o: Options, out: &mut [u8]) {
 fn main() {
     let o = find_options();
     if o.help {
-        print_help();
+        print_help(o);
         return;
     }
     let mut out = io::large_buffer();

@@ -1,10 +1,11 @@
 // The options of the command.
 use libc::STDOUT_FILENO;
 
-// Whether help was asked for or an option is unknown, whether the answers are for programs, whether the hours are printed,
-// and how many files there are.
+// Whether help is printed, which argument is an option that is not known, 0 for none, whether the answers are for
+// programs, whether the hours are printed, and how many files there are.
 pub struct Options {
     pub help: bool,
+    pub unknown: usize,
     pub tab: bool,
     pub table: bool,
     pub files: usize,
@@ -36,7 +37,7 @@ pub fn is_option(word: &[u8]) -> bool {
 }
 
 // The options with one argument more.
-fn with_argument(o: Options, word: &[u8]) -> Options {
+fn with_argument(o: Options, word: &[u8], i: usize) -> Options {
     let mut r = o;
     if !is_option(word) {
         if o.files < 1000000000 {
@@ -53,6 +54,9 @@ fn with_argument(o: Options, word: &[u8]) -> Options {
         return r;
     }
     r.help = true;
+    if !same(word, b"--help") {
+        r.unknown = i;
+    }
     r
 }
 
@@ -60,13 +64,14 @@ fn with_argument(o: Options, word: &[u8]) -> Options {
 fn with_place(o: Options, i: usize) -> Options {
     let mut word = io::buffer();
     let n = os::arg(i, &mut word);
-    with_argument(o, &word[..n])
+    with_argument(o, &word[..n], i)
 }
 
 // The options of the command, wherever they stand.
 pub fn find_options() -> Options {
     let mut o = Options {
         help: false,
+        unknown: 0,
         tab: false,
         table: false,
         files: 0,
@@ -80,7 +85,20 @@ pub fn find_options() -> Options {
     o
 }
 
-pub fn print_help() {
+// Which option is not known.
+fn print_unknown(i: usize) {
+    let mut word = io::buffer();
+    let n = os::arg(i, &mut word);
+    io::write_all(STDOUT_FILENO, b"unknown option: ");
+    io::write_all(STDOUT_FILENO, &word[..n]);
+    io::write_all(STDOUT_FILENO, b"\n\n");
+}
+
+// What the command can be asked.
+pub fn print_help(o: Options) {
+    if o.unknown != 0 {
+        print_unknown(o.unknown);
+    }
     io::write_all(STDOUT_FILENO, b"settle [--hours] [--tab] [FILE ..]\n\n");
     io::write_all(
         STDOUT_FILENO,

@@ -28,7 +28,7 @@ use sheets::months::put_month_record;
 use sheets::months::put_sheet;
 use sheets::records::put_hours;
 use sheets::records::put_record;
-use sheets::text::put;
+use text::put;
 
 // How far the command has got: the record of the point, the counts of all files, the number of the file and of the line, how many of its
 // bytes are there and whether there were too many, and the place behind what is written.
@@ -129,6 +129,25 @@ fn put_file(name: &[u8], o: Options, out: &mut [u8], place: usize, file: u64) ->
     }
     let at = put(out, place, name);
     put(out, at, b":\n")
+}
+
+// A file that cannot be read: for people by its name, for programs an error without a line.
+pub fn no_file(name: &[u8], o: Options, p: Progress, out: &mut [u8]) -> Progress {
+    let at = put_no_file(name, o, p.at, out);
+    let errors = one_more(p.counts.errors);
+    let mut r = p;
+    r.at = at;
+    r.counts.errors = errors;
+    r
+}
+
+// What is written of it.
+fn put_no_file(name: &[u8], o: Options, place: usize, out: &mut [u8]) -> usize {
+    if o.tab {
+        return put_bad_line(out, place, true, 0, 0, 0);
+    }
+    let at = put(out, place, name);
+    put(out, at, b": cannot be read\n")
 }
 
 // A call is answered: the record behind it, and the counts.

@@ -1,13 +1,13 @@
 // What is written of a call, an error and all files.
 use super::records::put_record;
-use super::text::put;
-use super::text::put_number;
 use super::wording::put_call;
 use super::wording::put_error;
 use super::wording::put_refusal;
 use numbers::wide;
+use text::put;
+use text::put_number;
 
-// How many calls were made, accepted and refused, and how many lines were errors.
+// How many calls were accepted and how many refused, and how many lines were errors.
 pub struct Counts {
     pub accepted: u64,
     pub refused: u64,

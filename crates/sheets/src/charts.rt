@@ -5,12 +5,12 @@ ghost use Prim.Native.Nat.{_+_, _*_, _≤_};
 ghost use lib.Dec.{ltb};
 ghost use Rattle.numbers.specs.Lists.{at};
 ghost use Rattle.sheets.specs.Charts.{hourOf, daySum, largestDay, reachesAbove};
-use super::text::put;
-use super::text::put_number;
-use super::text::put_right;
 use numbers::least;
 use numbers::pick;
 use numbers::word_at;
+use text::put;
+use text::put_number;
+use text::put_right;
 
 // An hour of a day, both counted from 0.
 fn hour_of(hours: &[u32], day: usize, h: usize) -> u64
@@ -105,17 +105,10 @@ pub fn put_chart(out: &mut [u8], at: usize, hours: &[u32], days: usize) -> usize
 
 // The digits of a number, ten at most.
 fn digits_of(n: u64) -> usize {
-    let k = pick(
-        n < 10,
-        1,
-        pick(n < 100, 2, pick(n < 1000, 3, pick(n < 10000, 4, 5))),
-    );
-    let k = pick(
-        n < 100000,
-        k,
-        pick(n < 1000000, 6, pick(n < 10000000, 7, 10)),
-    );
-    k as usize
+    let k = pick(n < 10, 1, pick(n < 100, 2, pick(n < 1000, 3, 4)));
+    let k = pick(n < 10000, k, pick(n < 100000, 5, pick(n < 1000000, 6, 7)));
+    let more = pick(n < 100000000, 8, pick(n < 1000000000, 9, 10));
+    pick(n < 10000000, k, more) as usize
 }
 
 // The largest hour of a month.

@@ -2,8 +2,6 @@
 use super::charts::put_chart;
 use super::charts::put_table;
 use super::records::put_record;
-use super::text::put;
-use super::text::put_number;
 use super::wording::put_clause;
 use super::wording::put_ground;
 use super::wording::put_month_name;
@@ -12,6 +10,8 @@ use numbers::least;
 use numbers::wide;
 use reasons::Reasons;
 use rules::Figures;
+use text::put;
+use text::put_number;
 use units::Kwh;
 use units::energy;
 
@@ -96,10 +96,14 @@ fn put_difference(out: &mut [u8], at: usize, name: &[u8], why: Reasons) -> usize
 
 // How a volume by the peak rule goes over the hours.
 fn put_peaks(out: &mut [u8], at: usize, m: Month) -> usize {
-    let at = put_around(out, at, b"; A ", peak_part(m), b" kWh on the n = ");
+    if m.why.peaks == 0 {
+        return put(out, at, b"; evenly, since n is 0");
+    }
+    let at = put_around(out, at, b"; A ", peak_part(m), b" kWh evenly over ");
     let at = put_number(out, at, m.why.peaks);
     let p = m.why.power;
-    put_around(out, at, b" peak hours, at most P ", wide(p.0), b" kW each")
+    let at = put_around(out, at, b" peak hours, at most P ", wide(p.0), b" kW each");
+    put(out, at, b", the rest evenly over the others")
 }
 
 // How V was found.
@@ -109,7 +113,7 @@ fn put_found(out: &mut [u8], at: usize, m: Month) -> usize {
         return put(out, at, b", the sum of the hours read");
     }
     if ground == 7 {
-        return put(out, at, b", the sum of the past's hours");
+        return put(out, at, b", the sum of the hours taken from the past");
     }
     if ground == 8 {
         let p = m.why.power;

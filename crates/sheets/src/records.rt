@@ -1,7 +1,7 @@
 // The form for programs: a word, then numbers in base ten, each behind a tab.
-use super::text::put;
-use super::text::put_number;
 use numbers::word_at;
+use text::put;
+use text::put_number;
 
 // A word and the numbers of a record.
 pub fn put_record(out: &mut [u8], place: usize, word: &[u8], numbers: &[u64]) -> usize {

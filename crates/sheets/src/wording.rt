@@ -1,5 +1,5 @@
 // The words of months, calls, grounds, clauses, refusals and errors.
-use super::text::put;
+use text::put;
 
 // The name of a month.
 pub fn put_month_name(out: &mut [u8], at: usize, month: u32) -> usize {
@@ -122,18 +122,18 @@ pub fn put_clause(out: &mut [u8], at: usize, clause: u32) -> usize {
         return put(
             out,
             at,
-            b"point 178: access to the meter was denied twice, as from the third month without a reading",
+            b"point 178: access to the meter was denied twice, as from the third month without a billing reading",
         );
     }
     if clause == 179 {
         return put(
             out,
             at,
-            b"point 179: the meter is out of service, as a month without a reading",
+            b"point 179: the meter is out of service, as a month without a billing reading",
         );
     }
     if clause == 166 {
-        return put(out, at, b"point 166: no reading was given");
+        return put(out, at, b"point 166: the month has no billing reading");
     }
     put(out, at, b"none: the billing meter was read")
 }
@@ -149,7 +149,7 @@ pub fn put_refusal(out: &mut [u8], at: usize, number: u32) -> usize {
     put_closing_refusal(out, at, number)
 }
 
-// Anyone's refusals, and those of an opening.
+// Anyone's refusals, before those of an opening.
 fn put_early_refusal(out: &mut [u8], at: usize, number: u32) -> usize {
     if number == 1 {
         return put(out, at, b"the store has not 10,416 words");
@@ -164,6 +164,11 @@ fn put_early_refusal(out: &mut [u8], at: usize, number: u32) -> usize {
     if number == 3 {
         return put(out, at, b"the calendar is over");
     }
+    put_opening_refusal(out, at, number)
+}
+
+// Those of an opening.
+fn put_opening_refusal(out: &mut [u8], at: usize, number: u32) -> usize {
     if number == 10 {
         return put(
             out,
@@ -198,7 +203,7 @@ fn put_early_refusal(out: &mut [u8], at: usize, number: u32) -> usize {
     at
 }
 
-// Those of readings and of the network firm's reports.
+// Those of readings, before those of the network firm's reports.
 fn put_event_refusal(out: &mut [u8], at: usize, number: u32) -> usize {
     if number == 20 {
         return put(
@@ -227,6 +232,11 @@ fn put_event_refusal(out: &mut [u8], at: usize, number: u32) -> usize {
             b"an hour is above 1,000,000, or a volume above that for each hour of the month",
         );
     }
+    put_network_refusal(out, at, number)
+}
+
+// Those of the network firm's reports.
+fn put_network_refusal(out: &mut [u8], at: usize, number: u32) -> usize {
     if number == 30 {
         return put(out, at, b"the point is out of service already");
     }
@@ -288,7 +298,7 @@ pub fn put_error(out: &mut [u8], at: usize, error: u32) -> usize {
     put_list_error(out, at, error)
 }
 
-// Errors 1 to 10.
+// Errors 1 to 5, before the others below 11.
 fn put_call_error(out: &mut [u8], at: usize, error: u32) -> usize {
     if error == 1 {
         return put(out, at, b"the line is longer than 16,384 bytes");
@@ -309,6 +319,11 @@ fn put_call_error(out: &mut [u8], at: usize, error: u32) -> usize {
     if error == 5 {
         return put(out, at, b"- was expected between year and month");
     }
+    put_argument_error(out, at, error)
+}
+
+// Errors 6 to 10.
+fn put_argument_error(out: &mut [u8], at: usize, error: u32) -> usize {
     if error == 6 {
         return put(
             out,
@@ -336,10 +351,10 @@ fn put_call_error(out: &mut [u8], at: usize, error: u32) -> usize {
     if error == 10 {
         return put(out, at, b"hours or volume was expected");
     }
-    put(out, at, b"the file cannot be read")
+    at
 }
 
-// Errors 11 to 20.
+// Errors 11 to 15, before the others.
 fn put_list_error(out: &mut [u8], at: usize, error: u32) -> usize {
     if error == 11 {
         return put(
@@ -359,11 +374,16 @@ fn put_list_error(out: &mut [u8], at: usize, error: u32) -> usize {
         return put(out, at, b"the number is too large");
     }
     if error == 14 {
-        return put(out, at, b"a number, a count or week was expected");
+        return put(out, at, b"a part of the list was expected");
     }
     if error == 15 {
         return put(out, at, b"( was expected");
     }
+    put_part_error(out, at, error)
+}
+
+// Errors 16 to 20.
+fn put_part_error(out: &mut [u8], at: usize, error: u32) -> usize {
     if error == 16 {
         return put(out, at, b"a number, a count or ) was expected");
     }
@@ -374,7 +394,11 @@ fn put_list_error(out: &mut [u8], at: usize, error: u32) -> usize {
         return put(out, at, b"a list has at most 4,096 numbers");
     }
     if error == 19 {
-        return put(out, at, b"a number or ( was expected behind the count");
+        return put(
+            out,
+            at,
+            b"a number was expected behind the count, or ( outside parentheses",
+        );
     }
     if error == 20 {
         return put(out, at, b"the end of the line was expected");

@@ -1,6 +1,6 @@
 use borrow.Author.Needs.{needs}
-use Rattle.sheets.proofs.text.put_number.Statement.{statement}
-use Rattle.sheets.proofs.text.put_number.Tie as tie
+use Rattle.text.proofs.put_number.Statement.{statement}
+use Rattle.text.proofs.put_number.Tie as tie
 
 returns : tie.Need-returns
 returns c =

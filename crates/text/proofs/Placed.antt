@@ -10,7 +10,7 @@ use lib.ListN.{length, take, drop, length-take, length-drop}
 use lib.Seq.{drop-length}
 use Rattle.numbers.specs.Lists.{at, Filled}
 use Rattle.numbers.proofs.Laws.{tab-at}
-use Rattle.sheets.specs.Text.{hasRoom}
+use Rattle.text.specs.Text.{hasRoom}
 
 drop-whole : (d : List ℕ) (n : ℕ) → length d ≡ n → drop n d ≡ []
 drop-whole d n e = rw (← e) (drop-length d)

@@ -5,8 +5,8 @@ use borrow.Author.Needs.{needs}
 use lib.ListN.{length}
 use Rattle.numbers.specs.Lists.{at, Filled}
 use Rattle.numbers.proofs.Laws.{filled-none, filled-more, filled-end}
-use Rattle.sheets.proofs.text.copy.Statement.{statement}
-use Rattle.sheets.proofs.text.copy.Tie as tie
+use Rattle.text.proofs.copy.Statement.{statement}
+use Rattle.text.proofs.copy.Tie as tie
 
 abbrev Inv-loop : tie.InvT-loop
 Inv-loop part₀ text k₀ part k = (k ≤ length text) × (length text ≤ length part₀) × Filled (at text) part₀ part k

@@ -1,8 +1,9 @@
-// Text and numbers into a buffer.
+// Text and numbers into a buffer that the caller lends, at a place; the answer is the place behind them. Text for which
+// there is no room is left out whole.
 ghost use Prim.Native.Nat.{_+_, _≤_};
 ghost use lib.ListN.{length};
 ghost use Rattle.numbers.specs.Lists.{at, Filled};
-ghost use Rattle.sheets.specs.Text.{Put, Numbered};
+ghost use Rattle.text.specs.Text.{Put, Numbered};
 
 // The bytes of a text into the front of a part of the buffer.
 fn copy(part: &mut [u8], text: &[u8])

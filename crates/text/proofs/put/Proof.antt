@@ -2,9 +2,9 @@ use native.Mathlib.Omega.{arith}
 use borrow.Author.Needs.{needs}
 use borrow.Author.Tests.{le-leb, lt-leb}
 use lib.ListN.{length-take, length-drop}
-use Rattle.sheets.proofs.Placed.{put-made}
-use Rattle.sheets.proofs.text.put.Statement.{statement}
-use Rattle.sheets.proofs.text.put.Tie as tie
+use Rattle.text.proofs.Placed.{put-made}
+use Rattle.text.proofs.put.Statement.{statement}
+use Rattle.text.proofs.put.Tie as tie
 
 returns : tie.Need-returns
 returns c =

@@ -2,8 +2,8 @@ use mathlib.Core.Path.{_≡_}
 use Prim.Native.Nat.{_-_}
 use lib.ListN.{length}
 use borrow.Author.Needs.{needs}
-use Rattle.sheets.proofs.text.put_blanks.Statement.{statement}
-use Rattle.sheets.proofs.text.put_blanks.Tie as tie
+use Rattle.text.proofs.put_blanks.Statement.{statement}
+use Rattle.text.proofs.put_blanks.Tie as tie
 
 abbrev Inv-loop : tie.InvT-loop
 Inv-loop out₀ place n at₀ k₀ t6 out at k = length out ≡ length out₀
