@@ -1,1 +1,3 @@
+pub mod Examples
 pub mod Marks
+pub mod Weekdays
