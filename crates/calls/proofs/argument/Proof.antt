@@ -6,11 +6,11 @@ use Rattle.calls.proofs.argument.Tie as tie
 
 returns : tie.Need-returns
 unfolding argumentOf
-returns c = rw (← c .before .value-of .ensures, eq-eqb _ _ (c .if1 .taken)) (cc)
+returns c = rw (← c .before .value-of .ensures, eq-eqb _ _ (c .if1 .taken))
 
 returns-2 : tie.Need-returns-2
 unfolding argumentOf
-returns-2 c = rw (← c .before .value-of .ensures, ne-eqb _ _ (c .if1 .left)) (cc)
+returns-2 c = rw (← c .before .value-of .ensures, ne-eqb _ _ (c .if1 .left))
 
 pub argument-spec : {M : Type 1} → statement M
 argument-spec =

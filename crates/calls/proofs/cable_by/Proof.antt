@@ -5,7 +5,7 @@ use Rattle.calls.proofs.cable_by.Tie as tie
 
 returns : tie.Need-returns
 unfolding cableBy
-returns c = cc
+returns c = rw (c .field4 .ensures, c .before .field3 .ensures, c .before .before .field2 .ensures, c .before .before .before .field .ensures)
 
 pub cable-by-spec : {M : Type 1} → statement M
 cable-by-spec =

@@ -5,7 +5,7 @@ use Rattle.calls.proofs.contract_by.Tie as tie
 
 returns : tie.Need-returns
 unfolding askedBy
-returns c = cc
+returns c = rw (c .cable-by .ensures, c .before .field4 .ensures, c .before .before .field3 .ensures, c .before .before .before .field2 .ensures, c .before .before .before .before .field .ensures)
 
 pub contract-by-spec : {M : Type 1} → statement M
 contract-by-spec =

@@ -5,7 +5,7 @@ use Rattle.calls.proofs.date_by.Tie as tie
 
 returns : tie.Need-returns
 unfolding dateBy
-returns c = cc
+returns c = rw (c .field2 .ensures, c .before .field .ensures)
 
 pub date-by-spec : {M : Type 1} → statement M
 date-by-spec =

@@ -5,7 +5,7 @@ use Rattle.calls.proofs.field.Tie as tie
 
 returns : tie.Need-returns
 unfolding fieldOf
-returns c = cc
+returns c = rw (c .argument .ensures)
 
 pub field-spec : {M : Type 1} → statement M
 field-spec =

@@ -6,31 +6,31 @@ use Rattle.lines.proofs.step.Tie as tie
 
 returns : tie.Need-returns
 unfolding stepped
-returns c = rw (eq-eqb _ _ (c .before .if1 .taken)) (cc)
+returns c = rw (eq-eqb _ _ (c .before .if1 .taken)) (rw (c .fail .ensures))
 
 returns-2 : tie.Need-returns-2
 unfolding stepped
-returns-2 c = rw (ne-eqb _ _ (c .before .before .before .if1 .left), eq-eqb _ _ (c .before .if2 .taken)) (cc)
+returns-2 c = rw (ne-eqb _ _ (c .before .before .before .if1 .left), eq-eqb _ _ (c .before .if2 .taken)) (rw (c .fail2 .ensures))
 
 returns-3 : tie.Need-returns-3
 unfolding stepped
-returns-3 c = rw (ne-eqb _ _ (c .before .before .before .before .before .if1 .left), ne-eqb _ _ (c .before .before .before .if2 .left), eq-eqb _ _ (c .before .if3 .taken)) (cc)
+returns-3 c = rw (ne-eqb _ _ (c .before .before .before .before .before .if1 .left), ne-eqb _ _ (c .before .before .before .if2 .left), eq-eqb _ _ (c .before .if3 .taken)) (rw (c .in-list .ensures))
 
 returns-4 : tie.Need-returns-4
 unfolding stepped
-returns-4 c = rw (ne-eqb _ _ (c .before .before .before .before .before .before .before .if1 .left), ne-eqb _ _ (c .before .before .before .before .before .if2 .left), ne-eqb _ _ (c .before .before .before .if3 .left), eq-eqb _ _ (c .before .if4 .taken)) (cc)
+returns-4 c = rw (ne-eqb _ _ (c .before .before .before .before .before .before .before .if1 .left), ne-eqb _ _ (c .before .before .before .before .before .if2 .left), ne-eqb _ _ (c .before .before .before .if3 .left), eq-eqb _ _ (c .before .if4 .taken)) (rw (c .in-group .ensures))
 
 returns-5 : tie.Need-returns-5
 unfolding stepped
-returns-5 c = rw (ne-eqb _ _ (c .before .before .before .before .before .before .before .before .before .if1 .left), ne-eqb _ _ (c .before .before .before .before .before .before .before .if2 .left), ne-eqb _ _ (c .before .before .before .before .before .if3 .left), ne-eqb _ _ (c .before .before .before .if4 .left), eq-eqb _ _ (c .before .if5 .taken)) (cc)
+returns-5 c = rw (ne-eqb _ _ (c .before .before .before .before .before .before .before .before .before .if1 .left), ne-eqb _ _ (c .before .before .before .before .before .before .before .if2 .left), ne-eqb _ _ (c .before .before .before .before .before .if3 .left), ne-eqb _ _ (c .before .before .before .if4 .left), eq-eqb _ _ (c .before .if5 .taken)) (rw (c .in-counted .ensures))
 
 returns-6 : tie.Need-returns-6
 unfolding stepped
-returns-6 c = rw (ne-eqb _ _ (c .before .before .before .before .before .before .before .before .before .before .before .if1 .left), ne-eqb _ _ (c .before .before .before .before .before .before .before .before .before .if2 .left), ne-eqb _ _ (c .before .before .before .before .before .before .before .if3 .left), ne-eqb _ _ (c .before .before .before .before .before .if4 .left), ne-eqb _ _ (c .before .before .before .if5 .left), eq-eqb _ _ (c .before .if6 .taken)) (cc)
+returns-6 c = rw (ne-eqb _ _ (c .before .before .before .before .before .before .before .before .before .before .before .if1 .left), ne-eqb _ _ (c .before .before .before .before .before .before .before .before .before .if2 .left), ne-eqb _ _ (c .before .before .before .before .before .before .before .if3 .left), ne-eqb _ _ (c .before .before .before .before .before .if4 .left), ne-eqb _ _ (c .before .before .before .if5 .left), eq-eqb _ _ (c .before .if6 .taken)) (rw (c .in-day .ensures))
 
 returns-7 : tie.Need-returns-7
 unfolding stepped
-returns-7 c = rw (ne-eqb _ _ (c .before .before .before .before .before .before .before .before .before .before .before .if1 .left), ne-eqb _ _ (c .before .before .before .before .before .before .before .before .before .if2 .left), ne-eqb _ _ (c .before .before .before .before .before .before .before .if3 .left), ne-eqb _ _ (c .before .before .before .before .before .if4 .left), ne-eqb _ _ (c .before .before .before .if5 .left), ne-eqb _ _ (c .before .if6 .left)) (cc)
+returns-7 c = rw (ne-eqb _ _ (c .before .before .before .before .before .before .before .before .before .before .before .if1 .left), ne-eqb _ _ (c .before .before .before .before .before .before .before .before .before .if2 .left), ne-eqb _ _ (c .before .before .before .before .before .before .before .if3 .left), ne-eqb _ _ (c .before .before .before .before .before .if4 .left), ne-eqb _ _ (c .before .before .before .if5 .left), ne-eqb _ _ (c .before .if6 .left)) (rw (c .step-in-call .ensures))
 
 pub step-spec : {M : Type 1} → statement M
 step-spec =

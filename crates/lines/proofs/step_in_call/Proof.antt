@@ -6,27 +6,27 @@ use Rattle.lines.proofs.step_in_call.Tie as tie
 
 returns : tie.Need-returns
 unfolding steppedInCall
-returns c = rw (eq-eqb _ _ (c .before .if1 .taken)) (cc)
+returns c = rw (eq-eqb _ _ (c .before .if1 .taken)) (rw (c .in-call .ensures))
 
 returns-2 : tie.Need-returns-2
 unfolding steppedInCall
-returns-2 c = rw (ne-eqb _ _ (c .before .before .before .if1 .left), eq-eqb _ _ (c .before .if2 .taken)) (cc)
+returns-2 c = rw (ne-eqb _ _ (c .before .before .before .if1 .left), eq-eqb _ _ (c .before .if2 .taken)) (rw (c .in-value .ensures))
 
 returns-3 : tie.Need-returns-3
 unfolding steppedInCall
-returns-3 c = rw (ne-eqb _ _ (c .before .before .before .before .before .if1 .left), ne-eqb _ _ (c .before .before .before .if2 .left), eq-eqb _ _ (c .before .if3 .taken)) (cc)
+returns-3 c = rw (ne-eqb _ _ (c .before .before .before .before .before .if1 .left), ne-eqb _ _ (c .before .before .before .if2 .left), eq-eqb _ _ (c .before .if3 .taken)) (rw (c .in-dash .ensures))
 
 returns-4 : tie.Need-returns-4
 unfolding steppedInCall
-returns-4 c = rw (ne-eqb _ _ (c .before .before .before .before .before .before .before .if1 .left), ne-eqb _ _ (c .before .before .before .before .before .if2 .left), ne-eqb _ _ (c .before .before .before .if3 .left), eq-eqb _ _ (c .before .if4 .taken)) (cc)
+returns-4 c = rw (ne-eqb _ _ (c .before .before .before .before .before .before .before .if1 .left), ne-eqb _ _ (c .before .before .before .before .before .if2 .left), ne-eqb _ _ (c .before .before .before .if3 .left), eq-eqb _ _ (c .before .if4 .taken)) (rw (c .in-argument .ensures))
 
 returns-5 : tie.Need-returns-5
 unfolding steppedInCall
-returns-5 c = rw (ne-eqb _ _ (c .before .before .before .before .before .before .before .before .before .if1 .left), ne-eqb _ _ (c .before .before .before .before .before .before .before .if2 .left), ne-eqb _ _ (c .before .before .before .before .before .if3 .left), ne-eqb _ _ (c .before .before .before .if4 .left), eq-eqb _ _ (c .before .if5 .taken)) (cc)
+returns-5 c = rw (ne-eqb _ _ (c .before .before .before .before .before .before .before .before .before .if1 .left), ne-eqb _ _ (c .before .before .before .before .before .before .before .if2 .left), ne-eqb _ _ (c .before .before .before .before .before .if3 .left), ne-eqb _ _ (c .before .before .before .if4 .left), eq-eqb _ _ (c .before .if5 .taken)) (rw (c .in-form .ensures))
 
 returns-6 : tie.Need-returns-6
 unfolding steppedInCall
-returns-6 c = rw (ne-eqb _ _ (c .before .before .before .before .before .before .before .before .before .if1 .left), ne-eqb _ _ (c .before .before .before .before .before .before .before .if2 .left), ne-eqb _ _ (c .before .before .before .before .before .if3 .left), ne-eqb _ _ (c .before .before .before .if4 .left), ne-eqb _ _ (c .before .if5 .left)) (cc)
+returns-6 c = rw (ne-eqb _ _ (c .before .before .before .before .before .before .before .before .before .if1 .left), ne-eqb _ _ (c .before .before .before .before .before .before .before .if2 .left), ne-eqb _ _ (c .before .before .before .before .before .if3 .left), ne-eqb _ _ (c .before .before .before .if4 .left), ne-eqb _ _ (c .before .if5 .left)) (rw (c .in-last .ensures))
 
 pub step-in-call-spec : {M : Type 1} → statement M
 step-in-call-spec =

@@ -20,7 +20,7 @@ add-result c =
 
 returns : tie.Need-returns
 unfolding grownBy
-returns c = cc
+returns c = rw (c .wide-byte .ensures, c .before .least .ensures)
 
 pub grown-spec : {M : Type 1} → statement M
 grown-spec =

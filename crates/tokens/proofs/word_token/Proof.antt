@@ -5,7 +5,7 @@ use Rattle.tokens.proofs.word_token.Tie as tie
 
 returns : tie.Need-returns
 unfolding wordToken
-returns c = cc
+returns c = rw (c .pick-wide .ensures, c .before .value .ensures, c .before .before .size-above .ensures, c .before .before .before .span .ensures)
 
 pub word-token-spec : {M : Type 1} → statement M
 word-token-spec =

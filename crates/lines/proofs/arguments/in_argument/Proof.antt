@@ -6,11 +6,11 @@ use Rattle.lines.proofs.arguments.in_argument.Tie as tie
 
 returns : tie.Need-returns
 unfolding inArgument
-returns c = rw (eq-eqb _ _ (c .before .if1 .taken)) (cc)
+returns c = rw (eq-eqb _ _ (c .before .if1 .taken)) (rw (c .to-mode .ensures))
 
 returns-2 : tie.Need-returns-2
 unfolding inArgument
-returns-2 c = rw (ne-eqb _ _ (c .before .before .before .before .if1 .left)) (cc)
+returns-2 c = rw (ne-eqb _ _ (c .before .before .before .before .if1 .left)) (rw (c .named .ensures, c .before .pick .ensures, c .before .before .key-of .ensures))
 
 pub in-argument-spec : {M : Type 1} → statement M
 in-argument-spec =

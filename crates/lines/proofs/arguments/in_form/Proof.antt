@@ -5,7 +5,7 @@ use Rattle.lines.proofs.arguments.in_form.Tie as tie
 
 returns : tie.Need-returns
 unfolding inForm
-returns c = rw (c .before .if1 .taken) (cc)
+returns c = rw (c .before .if1 .taken) (rw (c .to-mode .ensures))
 
 returns-2 : tie.Need-returns-2
 unfolding inForm
@@ -13,7 +13,7 @@ returns-2 c = rw (c .before .before .before .before .before .before .if1 .left, 
 
 returns-3 : tie.Need-returns-3
 unfolding inForm
-returns-3 c = rw (c .before .before .before .if1 .left, c .before .if2 .left) (cc)
+returns-3 c = rw (c .before .before .before .if1 .left, c .before .if2 .left) (rw (c .fail .ensures))
 
 pub in-form-spec : {M : Type 1} → statement M
 in-form-spec =

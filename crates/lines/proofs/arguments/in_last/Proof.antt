@@ -6,11 +6,11 @@ use Rattle.lines.proofs.arguments.in_last.Tie as tie
 
 returns : tie.Need-returns
 unfolding inLast
-returns c = rw (eq-eqb _ _ (c .before .if1 .taken)) (cc)
+returns c = rw (eq-eqb _ _ (c .before .if1 .taken)) (rw (c .to-mode .ensures))
 
 returns-2 : tie.Need-returns-2
 unfolding inLast
-returns-2 c = rw (ne-eqb _ _ (c .before .if1 .left)) (cc)
+returns-2 c = rw (ne-eqb _ _ (c .before .if1 .left)) (rw (c .fail .ensures))
 
 pub in-last-spec : {M : Type 1} → statement M
 in-last-spec =

@@ -6,11 +6,11 @@ use Rattle.lines.proofs.arguments.named.Tie as tie
 
 returns : tie.Need-returns
 unfolding namedAs
-returns c = rw (eq-eqb _ _ (c .before .if1 .taken)) (cc)
+returns c = rw (eq-eqb _ _ (c .before .if1 .taken)) (rw (c .fail .ensures))
 
 returns-2 : tie.Need-returns-2
 unfolding namedAs
-returns-2 c = rw (← c .before .before .value-of .ensures, ne-eqb _ _ (c .before .before .before .if1 .left), ne-eqb _ _ (c .before .if2 .taken)) (cc)
+returns-2 c = rw (← c .before .before .value-of .ensures, ne-eqb _ _ (c .before .before .before .if1 .left), ne-eqb _ _ (c .before .if2 .taken)) (rw (c .fail2 .ensures))
 
 returns-3 : tie.Need-returns-3
 unfolding namedAs
@@ -18,7 +18,7 @@ returns-3 c = rw (← c .before .before .before .before .value-of .ensures, ne-e
 
 returns-4 : tie.Need-returns-4
 unfolding namedAs
-returns-4 c = rw (← c .before .before .before .value-of .ensures, ne-eqb _ _ (c .before .before .before .before .if1 .left), eq-eqb _ _ (c .before .before .if2 .left), ne-eqb _ _ (c .before .if3 .left)) (cc)
+returns-4 c = rw (← c .before .before .before .value-of .ensures, ne-eqb _ _ (c .before .before .before .before .if1 .left), eq-eqb _ _ (c .before .before .if2 .left), ne-eqb _ _ (c .before .if3 .left)) (rw (c .ask .ensures))
 
 pub named-spec : {M : Type 1} → statement M
 named-spec =

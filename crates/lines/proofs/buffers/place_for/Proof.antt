@@ -1,16 +1,25 @@
+use mathlib.Core.Path.{_≡_}
+use mathlib.Core.Bool.{true, false}
+use Prim.Native.Nat.{_/_}
 use borrow.Author.Needs.{needs}
 use borrow.Author.Tests.{eq-eqb, ne-eqb}
-use Rattle.lines.specs.Buffers.{placeFor}
+use Rattle.lines.specs.Buffers.{restDay, placeFor}
 use Rattle.lines.proofs.buffers.place_for.Statement.{statement}
 use Rattle.lines.proofs.buffers.place_for.Tie as tie
 
 returns : tie.Need-returns
 unfolding placeFor
-returns c = rw (c .before .if1 .taken, c .if2 .taken)
+returns c =
+    let a = c .before .before .args in
+    let e : restDay (a .first) (a .k / 24) ≡ true = c .if2 .taken in
+    rw (c .before .if1 .taken, e)
 
 returns-2 : tie.Need-returns-2
 unfolding placeFor
-returns-2 c = rw (c .before .if1 .taken, c .if2 .left)
+returns-2 c =
+    let a = c .before .before .args in
+    let e : restDay (a .first) (a .k / 24) ≡ false = c .if2 .left in
+    rw (c .before .if1 .taken, e)
 
 returns-3 : tie.Need-returns-3
 unfolding placeFor

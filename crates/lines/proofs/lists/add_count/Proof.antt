@@ -6,11 +6,11 @@ use Rattle.lines.proofs.lists.add_count.Tie as tie
 
 returns : tie.Need-returns
 unfolding counting
-returns c = rw (lt-ltb _ _ (c .before .if1 .taken)) (cc)
+returns c = rw (lt-ltb 4096 _ (c .before .if1 .taken)) (rw (c .fail .ensures))
 
 returns-2 : tie.Need-returns-2
 unfolding counting
-returns-2 c = rw (le-ltb _ _ (c .before .before .before .if1 .left)) (cc)
+returns-2 c = rw (le-ltb 4096 _ (c .before .before .before .if1 .left)) (rw (c .set-list .ensures, c .before .short .ensures))
 
 pub add-count-spec : {M : Type 1} → statement M
 add-count-spec =

@@ -6,15 +6,15 @@ use Rattle.lines.proofs.lists.add_number.Tie as tie
 
 returns : tie.Need-returns
 unfolding adding
-returns c = rw (lt-ltb _ _ (c .before .if1 .taken)) (cc)
+returns c = rw (lt-ltb _ _ (c .before .if1 .taken)) (rw (c .fail .ensures))
 
 returns-2 : tie.Need-returns-2
 unfolding adding
-returns-2 c = rw (← c .before .before .together .ensures, le-ltb _ _ (c .before .before .before .if1 .left), lt-ltb _ _ (c .before .if2 .taken)) (cc)
+returns-2 c = rw (← c .before .before .together .ensures, le-ltb _ _ (c .before .before .before .if1 .left), lt-ltb 4096 _ (c .before .if2 .taken)) (rw (c .fail2 .ensures))
 
 returns-3 : tie.Need-returns-3
 unfolding adding
-returns-3 c = rw (← c .before .before .before .before .before .together .ensures, le-ltb _ _ (c .before .before .before .before .before .before .if1 .left), le-ltb _ _ (c .before .before .before .before .if2 .left)) (cc)
+returns-3 c = rw (← c .before .before .before .before .before .together .ensures, le-ltb _ _ (c .before .before .before .before .before .before .if1 .left), le-ltb 4096 _ (c .before .before .before .before .if2 .left)) (rw (c .set-list .ensures, c .before .add .ensures, c .before .before .pick .ensures))
 
 pub add-number-spec : {M : Type 1} → statement M
 add-number-spec =

@@ -6,23 +6,23 @@ use Rattle.lines.proofs.lists.close_group.Tie as tie
 
 returns : tie.Need-returns
 unfolding closing
-returns c = rw (eq-eqb _ _ (c .before .before .before .if1 .taken), ne-eqb _ _ (c .before .if2 .taken)) (cc)
+returns c = rw (eq-eqb _ _ (c .before .before .before .if1 .taken), ne-eqb _ 24 (c .before .if2 .taken)) (rw (c .fail .ensures))
 
 returns-2 : tie.Need-returns-2
 unfolding closing
-returns-2 c = rw (eq-eqb _ _ (c .before .before .before .if1 .taken), eq-eqb _ _ (c .before .if2 .left)) (cc)
+returns-2 c = rw (eq-eqb _ _ (c .before .before .before .if1 .taken), eq-eqb _ 24 (c .before .if2 .left)) (rw (c .to-mode .ensures))
 
 returns-3 : tie.Need-returns-3
 unfolding closing
-returns-3 c = rw (ne-eqb _ _ (c .before .before .before .before .if1 .left), c .before .if3 .taken) (cc)
+returns-3 c = rw (ne-eqb _ _ (c .before .before .before .before .if1 .left), c .before .if3 .taken) (rw (c .fail2 .ensures))
 
 returns-4 : tie.Need-returns-4
 unfolding closing
-returns-4 c = rw (← c .before .before .before .before .pick .ensures, ← c .before .before .before .pick2 .ensures, ← c .before .before .repeated .ensures, ne-eqb _ _ (c .before .before .before .before .before .before .before .before .before .if1 .left), c .before .before .before .before .before .before .if3 .left, lt-ltb _ _ (c .before .if4 .taken)) (cc)
+returns-4 c = rw (← c .before .before .before .before .pick .ensures, ← c .before .before .before .pick2 .ensures, ← c .before .before .repeated .ensures, ne-eqb _ _ (c .before .before .before .before .before .before .before .before .before .if1 .left), c .before .before .before .before .before .before .if3 .left, lt-ltb 4096 _ (c .before .if4 .taken)) (rw (c .fail3 .ensures))
 
 returns-5 : tie.Need-returns-5
 unfolding closing
-returns-5 c = rw (← c .before .before .before .before .before .before .pick .ensures, ← c .before .before .before .before .before .pick2 .ensures, ← c .before .before .before .before .repeated .ensures, ← c .before .before .pick3 .ensures, ne-eqb _ _ (c .before .before .before .before .before .before .before .before .before .before .before .if1 .left), c .before .before .before .before .before .before .before .before .if3 .left, le-ltb _ _ (c .before .before .before .if4 .left)) (cc)
+returns-5 c = rw (← c .before .before .before .before .before .before .pick .ensures, ← c .before .before .before .before .before .pick2 .ensures, ← c .before .before .before .before .repeated .ensures, ← c .before .before .pick3 .ensures, ne-eqb _ _ (c .before .before .before .before .before .before .before .before .before .before .before .if1 .left), c .before .before .before .before .before .before .before .before .if3 .left, le-ltb 4096 _ (c .before .before .before .if4 .left)) (rw (c .set-list .ensures, c .before .closed .ensures, c .before .before .pick3 .ensures))
 
 pub close-group-spec : {M : Type 1} → statement M
 close-group-spec =

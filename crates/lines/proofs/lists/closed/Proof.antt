@@ -5,7 +5,7 @@ use Rattle.lines.proofs.lists.closed.Tie as tie
 
 returns : tie.Need-returns
 unfolding closedWith
-returns c = cc
+returns c = rw (c .short .ensures)
 
 pub closed-spec : {M : Type 1} → statement M
 closed-spec =

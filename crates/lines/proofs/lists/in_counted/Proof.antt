@@ -6,15 +6,15 @@ use Rattle.lines.proofs.lists.in_counted.Tie as tie
 
 returns : tie.Need-returns
 unfolding inCounted
-returns c = rw (eq-eqb _ _ (c .before .if1 .taken)) (cc)
+returns c = rw (eq-eqb _ _ (c .before .if1 .taken)) (rw (c .add-number .ensures))
 
 returns-2 : tie.Need-returns-2
 unfolding inCounted
-returns-2 c = rw (ne-eqb _ _ (c .before .before .before .before .before .if1 .left), c .before .before .if2 .taken) (cc)
+returns-2 c = rw (ne-eqb _ _ (c .before .before .before .before .before .if1 .left), c .before .before .if2 .taken) (rw (c .set-list .ensures, c .before .opened .ensures))
 
 returns-3 : tie.Need-returns-3
 unfolding inCounted
-returns-3 c = rw (ne-eqb _ _ (c .before .before .before .before .if1 .left), c .before .if2 .left) (cc)
+returns-3 c = rw (ne-eqb _ _ (c .before .before .before .before .if1 .left), c .before .if2 .left) (rw (c .fail .ensures))
 
 pub in-counted-spec : {M : Type 1} → statement M
 in-counted-spec =

@@ -5,7 +5,7 @@ use Rattle.lines.proofs.names.expected.Tie as tie
 
 returns : tie.Need-returns
 unfolding expectedFor
-returns c = cc
+returns c = rw (c .pick4 .ensures, c .before .pick3 .ensures, c .before .before .pick2 .ensures, c .before .before .before .pick .ensures)
 
 pub expected-spec : {M : Type 1} → statement M
 expected-spec =

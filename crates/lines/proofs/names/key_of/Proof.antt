@@ -5,7 +5,7 @@ use Rattle.lines.proofs.names.key_of.Tie as tie
 
 returns : tie.Need-returns
 unfolding keyOf
-returns c = cc
+returns c = rw (c .pick10 .ensures, c .before .pick9 .ensures, c .before .before .pick8 .ensures, c .before .before .before .pick7 .ensures, c .before .before .before .before .pick6 .ensures, c .before .before .before .before .before .pick5 .ensures, c .before .before .before .before .before .before .pick4 .ensures, c .before .before .before .before .before .before .before .pick3 .ensures, c .before .before .before .before .before .before .before .before .pick2 .ensures, c .before .before .before .before .before .before .before .before .before .pick .ensures)
 
 pub key-of-spec : {M : Type 1} → statement M
 key-of-spec =

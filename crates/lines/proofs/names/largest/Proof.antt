@@ -5,7 +5,7 @@ use Rattle.lines.proofs.names.largest.Tie as tie
 
 returns : tie.Need-returns
 unfolding largestFor
-returns c = cc
+returns c = rw (c .pick-wide .ensures)
 
 pub largest-spec : {M : Type 1} → statement M
 largest-spec =

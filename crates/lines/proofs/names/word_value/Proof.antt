@@ -5,7 +5,7 @@ use Rattle.lines.proofs.names.word_value.Tie as tie
 
 returns : tie.Need-returns
 unfolding wordValue
-returns c = cc
+returns c = rw (c .pick-wide .ensures, c .before .contract-word .ensures, c .before .before .event-word .ensures)
 
 pub word-value-spec : {M : Type 1} → statement M
 word-value-spec =
