@@ -1,6 +1,5 @@
 // From a line of a history file to the call that it makes on a point.
 ghost use mathlib.Core.Path.{_≡_};
-ghost use Prim.Native.Nat.{min};
 ghost use lib.ListN.{length};
 ghost use Rattle.rules.specs.Calls.Call.{closing};
 ghost use Rattle.model.specs.Model.{state, Does};
@@ -21,6 +20,7 @@ use lines::Line;
 use lines::names;
 use lines::value_of;
 use model::Answer;
+use numbers::least;
 use opening::open_point;
 use power::Cable;
 use readings::read_billing_hours;
@@ -103,13 +103,6 @@ pub fn open_by(line: Line, list: &[u32], store: &mut [u32]) -> Answer
     open_point(asked, date, list, place, store)
 }
 
-// The smaller of two numbers.
-pub fn fewer(n: usize, m: usize) -> usize
-    ensures { λ r. ⌜ r ≡ min n m ⌝ }
-{
-    if n < m { n } else { m }
-}
-
 // Room for marks.
 pub fn no_marks() -> [u8; 4096]
     ensures { λ r. ⌜ 4096 ≡ length r ⌝ }
@@ -122,7 +115,7 @@ pub fn no_marks() -> [u8; 4096]
 pub fn copy_marks(list: &[u32], marks: &mut [u8]) -> usize
     ensures { λ n. ⌜ Copied (now (list .entry)) (now (marks .entry)) (now (marks .exit)) n ⌝ }
 {
-    let n = fewer(list.len(), marks.len());
+    let n = least(list.len() as u64, marks.len() as u64) as usize;
     let mut k = 0;
     while k < n {
         marks[k] = (list[k] % 256) as u8;

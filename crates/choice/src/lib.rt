@@ -25,7 +25,7 @@ use grounds::ground_two;
 use grounds::past::find_past;
 use marks::Survey;
 use marks::capacity_sum;
-use numbers::least;
+use marks::peak::peak_part;
 use numbers::pick;
 use numbers::pick_wide;
 use power::cable_power;
@@ -34,7 +34,6 @@ use record::Record;
 use record::Service;
 use units::Kw;
 use units::Kwh;
-use units::energy;
 
 // R: the run plus 1, and 3 if that is less while denials are 2.
 pub fn counted(s: Service) -> u32
@@ -79,9 +78,8 @@ fn six_fits(volume: Kwh, power: Kw, survey: Survey, sum: Kwh) -> bool
     requires { ⌜ (volume .0 ≤ 744000000) × (survey .peaks ≤ 744) × (survey .days ≤ 31) × (sum .0 ≤ 4294967295) ⌝ }
     ensures { λ t. ⌜ t ≡ groundSix (min (volume .0) (survey .peaks * power .0)) (survey .days) (survey .peaks) (sum .0) ⌝ }
 {
-    let most = energy(survey.peaks as u32, power);
-    let a = least(volume.0, most.0);
-    (0 < survey.peaks) & (a * survey.days < survey.peaks * sum.0)
+    let a = peak_part(volume, survey.peaks as u32, power);
+    (0 < survey.peaks) & (a.0 * survey.days < survey.peaks * sum.0)
 }
 
 // Grounds 8 and 9: by the contract.

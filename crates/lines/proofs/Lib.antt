@@ -1,3 +1,4 @@
+pub mod Ends
 pub mod Examples
 pub mod Parts
 pub mod Turns

@@ -1,15 +1,14 @@
 -- What holds of parts of a list that are filled. Assumes nothing.
-use mathlib.Core.Path.{_≡_, _∙_}
+use mathlib.Core.Path.{_≡_}
 use mathlib.Core.Bool.{true, _&&_}
-use mathlib.Core.List.{List, _++_, append-nil}
+use mathlib.Core.List.{List, _++_}
 use Prim.Native.Nat.{ℕ, _-_, _≤_}
 use native.Mathlib.Omega.{arith}
 use borrow.Author.Tests.{leb-true}
 use lib.Dec.{leb}
 use lib.ListN.{length, take, drop, length-take, length-drop}
-use Rattle.numbers.specs.Lists.{tab, Filled}
-use Rattle.numbers.proofs.Laws.{both}
-use Rattle.tokens.proofs.Spans.{drop-past}
+use Rattle.numbers.specs.Lists.{Filled}
+use Rattle.numbers.proofs.Laws.{both, filled-whole}
 use Rattle.lines.specs.Buffers.{part}
 
 -- the places of a part of a list of n words
@@ -20,11 +19,7 @@ pub record Within (a b n : ℕ) : Type 0 where
 pub within : (a b n : ℕ) → leb a b && leb b n ≡ true → Within a b n
 within a b n e = let p = both (leb a b) (leb b n) e in record { order = leb-true _ _ (p .0); there = leb-true _ _ (p .1) }
 
--- a part that is filled whole is a table
-pub filled-whole : {f : ℕ → ℕ} {d l : List ℕ} (n : ℕ) → length d ≡ n → Filled f d l n → l ≡ tab n f
-filled-whole {f} {d} {l} n e filled = filled .is ∙ rw (drop-past d n (omega arith), append-nil)
-
--- and put back, it is the list with the part made a table
+-- a part that is filled whole and put back is the list with that part made a table
 pub part-made : {f : ℕ → ℕ} (a b : ℕ) (l filled : List ℕ) → leb a b && leb b (length l) ≡ true
     → Filled f (take (b - a) (drop a l)) filled (length (take (b - a) (drop a l)))
     → take a l ++ (filled ++ drop (b - a) (drop a l)) ≡ part a b f l

@@ -1,5 +1,7 @@
 -- THE READING OF A LINE (docs/HISTORY-FILE.md): its call with the arguments and the list, or its error, from its bytes.
 use Prim.Native.Nat.{ℕ, zero, suc}
+use mathlib.Core.Path.{_≡_}
+use mathlib.Core.Logic.{_⊎_, _≢_}
 use mathlib.Core.Bool.{cond}
 use mathlib.Core.List.{List}
 use lib.Dec.{eqb, leb}
@@ -75,3 +77,7 @@ turns (suc n) hours first line r = turns n hours first line (turned hours first 
 unfoldable pub readLine : ℕ → ℕ → List ℕ → List ℕ → List ℕ → Read
 readLine hours first line numbers group =
     turned hours first line (turns (length line) hours first line (read freshLine numbers group))
+
+-- a line that is read has no error, and one that failed has one
+abbrev pub Ended : Line → Type 0
+Ended s = ((s .mode ≡ 10) × (s .error ≡ 0)) ⊎ ((s .mode ≡ 11) × (s .error ≢ 0))

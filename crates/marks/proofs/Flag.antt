@@ -38,13 +38,13 @@ part-of {marks} {flags} f l = record {
 }
 
 -- what the peak rule answers, from what the sharing apart answered
-pub peak-shared : (v p room : ℕ) {n most a : ℕ} {marks before after : List ℕ} {part : List Bool} {r : Bool}
-    → Part marks part → a ≡ min v most → most ≡ n * p → n ≡ peakCount marks
+pub peak-shared : (v p room : ℕ) {n a : ℕ} {marks before after : List ℕ} {part : List Bool} {r : Bool}
+    → Part marks part → a ≡ min v (n * p) → n ≡ peakCount marks
     → Shared (monthFits (a + (v - a)) (length part) room) (sharesApart a (v - a) (chosenAt part) (length part)) before after r
     → Shared (monthFits v (length marks) room) (peakRule v p marks) before after r
 unfolding peakRule peakPart
-peak-shared v p room {a = a} {marks = marks} {part = part} f e g i s =
+peak-shared v p room {a = a} {marks = marks} {part = part} f e i s =
     let whole : a + (v - a) ≡ v = omega arith in
-    let cut : min v (peakCount marks * p) ≡ a = sym (e ∙ rw (g, i)) in
+    let cut : min v (peakCount marks * p) ≡ a = sym (e ∙ rw i) in
     rw (cut, ← apart-same a (v - a) (length marks) (chosenAt part) (peakAt marks) (f .is))
     (rw (whole, f .long) at s)

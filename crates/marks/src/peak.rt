@@ -1,6 +1,6 @@
 // The peak rule.
 ghost use mathlib.Core.Path.{_≡_};
-ghost use Prim.Native.Nat.{_≤_};
+ghost use Prim.Native.Nat.{_*_, _≤_, min};
 ghost use lib.ListN.{length};
 ghost use Rattle.sharing.specs.Shares.{monthFits, Shared};
 ghost use Rattle.marks.specs.Marks.{peakCount};
@@ -41,6 +41,14 @@ fn flag_peaks(marks: &[u8]) -> [bool; 744]
     flags
 }
 
+// A: what of the volume the peak hours take at the power, of which there are n.
+pub fn peak_part(volume: Kwh, n: u32, power: Kw) -> Kwh
+    ensures { λ a. ⌜ a .0 ≡ min (volume .0) (n * power .0) ⌝ }
+{
+    let most = energy(n, power);
+    Kwh(least(volume.0, most.0))
+}
+
 // The volume shared by the peak rule over the hours of the marks, and 0 in the rest of the buffer. Where the numbers do
 // not fit the answer is false, and the buffer is as it was.
 pub fn peak_rule(volume: Kwh, power: Kw, marks: &[u8], hours: &mut [u32]) -> bool
@@ -54,9 +62,8 @@ pub fn peak_rule(volume: Kwh, power: Kw, marks: &[u8], hours: &mut [u32]) -> boo
     if t <= 744 {
         let n = count_peaks(marks);
         let flags = flag_peaks(marks);
-        let most = energy(n, power);
-        let a = least(volume.0, most.0);
-        return share_apart(Kwh(a), Kwh(volume.0 - a), &flags[0..t], hours);
+        let a = peak_part(volume, n, power);
+        return share_apart(a, Kwh(volume.0 - a.0), &flags[0..t], hours);
     }
     false
 }

@@ -23,18 +23,18 @@ use Rattle.rules.specs.Rules.{none, some, becomesPast}
 use Rattle.model.specs.Refusals.{refuse, anyone, ownRefusal, openRefusal}
 use Rattle.model.specs.Model.{State, state, isRepeat, afterFailure, pastIn, closedWith, accept}
 
-unfoldable judging : Unit {0}
+unfoldable pub judging : Unit {0}
 unfolding refuse ownRefusal openRefusal valid volumeLimit noneAbove storeFits isMonth monthDays monthHours openHours leapYear monthNumber dateOf cableFits agreedFits listFits high crowded unmatched accept pastIn
 judging = tt
 
-abbrev on : ℕ → ℕ → Date
+abbrev pub on : ℕ → ℕ → Date
 on y m = record { year = y; month = m }
 
 -- meters, 100 kW agreed, open in February 2023, T 672
-abbrev contract : ℕ → ℕ → Contract
+abbrev pub contract : ℕ → ℕ → Contract
 contract b k = record { billing = b; control = k; basis = 1; power = record { 0 = 100 }; cable = noCable }
 
-abbrev point : ℕ → ℕ → Record
+abbrev pub point : ℕ → ℕ → Record
 point b k = freshRecord (contract b k) (on 2023 2)
 
 abbrev served : Record → Service → Record
@@ -84,7 +84,7 @@ opening-keeps = (refl, refl, refl, refl, refl)
 abbrev hours : ℕ → List ℕ
 hours n = replicate n 7
 
-abbrev number : Record → Call → ℕ
+abbrev pub number : Record → Call → ℕ
 number r c = ownRefusal r [] c
 
 -- the other form, no such meter, no such source
@@ -135,26 +135,13 @@ network :
 unfolding judging
 network = (refl, refl, refl, refl, refl, refl, refl, refl, refl, refl)
 
--- SETTLEMENT: the lowest over the whole month, so 42 on the last day goes before 43 on the first
-abbrev plain : List ℕ
-plain = zeros 672
-
-abbrev closed : List ℕ → ℕ → ℕ
+-- SETTLEMENT: not T marks, and no number before. Those of whole months of marks are in the crate `whole_months`
+abbrev pub closed : List ℕ → ℕ → ℕ
 closed marks n = number (point 1 2) (closing marks (zeros n))
 
-settlement :
-    (closed (zeros 744) 744 ≡ 40) × (closed (set (set plain 0 1) 671 4) 744 ≡ 41) × (closed (1 ∷ (zeros 647 ++ (replicate 17 1 ++ zeros 7))) 744 ≡ 42)
-    × (closed (set plain 0 1) 743 ≡ 43) × (closed (set (set plain 0 2) 23 2) 744 ≡ 43) × (closed (set (set plain 0 3) 24 3) 744 ≡ 0) × (closed plain 743 ≡ 44)
-    × (closed plain 745 ≡ 44)
+settlement : (closed [] 744 ≡ 40) × (closed (4 ∷ []) 743 ≡ 40) × (closed (zeros 671) 744 ≡ 40) × (closed (zeros 673) 744 ≡ 40)
 unfolding judging
-settlement = (refl, refl, refl, refl, refl, refl, refl, refl)
-
--- 45, of a store of one word and of none
-store-limit :
-    (ownRefusal (point 1 2) (3000001 ∷ []) (closing plain (zeros 744)) ≡ 45) × (ownRefusal (point 1 2) (3000000 ∷ []) (closing plain (zeros 744)) ≡ 0)
-    × (ownRefusal (point 1 2) [] (closing plain (zeros 744)) ≡ 0)
-unfolding judging
-store-limit = (refl, refl, refl)
+settlement = (refl, refl, refl, refl)
 
 -- FAULTS: at most 12 months back, and the same month
 repeats :

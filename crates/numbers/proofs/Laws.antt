@@ -1,7 +1,7 @@
 -- What holds of tables, sums and tests over an index, and of a loop that fills a list from the front. Assumes nothing.
 use mathlib.Core.Path.{_≡_, refl, sym, ap₂, _∙_}
 use mathlib.Core.Logic.{_⊎_, inl, inr, ⊎-elim}
-use mathlib.Core.List.{List, [], _∷_, _++_, append-assoc}
+use mathlib.Core.List.{List, [], _∷_, _++_, append-assoc, append-nil}
 use mathlib.Core.Bool.{Bool, true, false, cond, _&&_, _||_, false≢true}
 use Prim.Native.Nat.{ℕ, zero, suc, _+_, _-_, _*_, _≤_, _<_}
 use native.Mathlib.Nat.{not-suc-le-zero, le-of-suc-le-suc, eq-or-lt-of-le, le-refl, le-step, le-antisymm, sub-zero, zero-sub, suc-sub-suc, add-zero, add-suc, mul-zero, mul-suc, mul-add}
@@ -219,6 +219,16 @@ filled-more {f} {d} {l} {h} {x} filled lt e = record {
 
 pub filled-end : {f : ℕ → ℕ} {d l : List ℕ} {h n : ℕ} → Filled f d l h → h ≤ n → n ≤ h → Filled f d l n
 filled-end filled a b = rw (le-antisymm b a) filled
+
+-- past its end nothing is left of a list; so a list that is filled whole is a table
+pub drop-past : (l : List ℕ) (n : ℕ) → length l ≤ n → drop n l ≡ []
+drop-past [] zero h = refl
+drop-past [] (suc n) h = refl
+drop-past (x ∷ xs) zero h = absurd (not-suc-le-zero h)
+drop-past (x ∷ xs) (suc n) h = drop-past xs n (le-of-suc-le-suc h)
+
+pub filled-whole : {f : ℕ → ℕ} {d l : List ℕ} (n : ℕ) → length d ≡ n → Filled f d l n → l ≡ tab n f
+filled-whole {f} {d} {l} n e filled = filled .is ∙ rw (drop-past d n (omega arith), append-nil)
 
 drop-zeros : (t n : ℕ) → drop t (zeros n) ≡ zeros (n - t)
 drop-zeros zero n = rw sub-zero

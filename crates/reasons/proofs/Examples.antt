@@ -13,16 +13,16 @@ use Rattle.marks.specs.Marks.{peakCount, capacitySum}
 use Rattle.contract.specs.declared.Contract.{Contract}
 use Rattle.contract.specs.Contract.{noCable, powerOf}
 use Rattle.record.specs.declared.Record.{Record}
-use Rattle.record.specs.Record.{kwh, givenAs, noReadings, freshRecord, freshService, withService, withReadings, withPast, withServing, withDenials, withBilling, withControl, withFirst}
+use Rattle.record.specs.Record.{kwh, noReadings, freshRecord, freshService, withService, withReadings, withPast, withServing, withDenials, withBilling}
 use Rattle.rules.specs.Rules.{Measured, missing, hourly, whole, PastHours, none, some, Inputs, countedOf, neighbourOf}
 use Rattle.model.specs.Model.{state, measuredIn, statedIn, pastIn, inputs}
 use Rattle.reasons.specs.Reasons.{clauseOf, readingOf, noDate, pastMonth, comparedPast, comparedControl, comparedBilling, comparedIn, reasonsOf}
 
-abbrev on : ℕ → ℕ → Date
+abbrev pub on : ℕ → ℕ → Date
 on y m = record { year = y; month = m }
 
 -- integral meters, 3 kW agreed
-abbrev contract : Contract
+abbrev pub contract : Contract
 contract = record { billing = 2; control = 2; basis = 1; power = record { 0 = 3 }; cable = noCable }
 
 -- open in February 2024, with a billing reading or none, in service or not, and denials
@@ -56,54 +56,45 @@ pasts :
 unfolding pastMonth dateOf
 pasts = (refl, refl, refl, refl, refl)
 
-unfoldable working : Unit {0}
+unfoldable pub working : Unit {0}
 unfolding reasonsOf clauseOf readingOf pastMonth comparedIn comparedBilling comparedControl comparedPast inputs measuredIn statedIn pastIn countedOf neighbourOf powerOf
     openHours monthHours monthDays isMonth leapYear dateOf formula halfUp peakCount capacitySum portion taken spread sharesOver stretched
 working = tt
 
 -- January 2023 with marks, R, billing and control readings, N, past
-abbrev january : List ℕ → ℕ → Measured → Measured → ℕ → PastHours → Inputs
+abbrev pub january : List ℕ → ℕ → Measured → Measured → ℕ → PastHours → Inputs
 january marks r b k n past =
     record { contract = contract; date = on 2023 1; marks = marks; counted = r; billing = b; control = k; neighbour = n; past = past }
 
--- one peak and capacity hour, hour 10; and a past of 5 kWh there and 15 in hour 20
-abbrev marked : List ℕ
-marked = set (zeros 744) 10 3
+-- a past of 5 kWh; and C' of a day with one peak and capacity hour, hour 10
+abbrev row : PastHours
+row = some (5 ∷ [])
 
-abbrev row : List ℕ
-row = set (set (zeros 744) 10 5) 20 15
+abbrev marked : ℕ → List ℕ
+marked m = set (zeros 24) 10 m
 
--- V 16 by the past gives hour 10 a quarter; C' is 0 with R 2, without peak hours, without a past, with N above K, and with any other reading
+-- C' is 0 with R 2, without peak hours, without a past, and with any other reading than K. Values of it are in the crate `whole_months`
 sums :
-    (comparedIn (january marked 3 missing (whole 20) 4 (some row)) ≡ 4) × (comparedIn (january marked 2 missing (whole 20) 4 (some row)) ≡ 0)
-    × (comparedIn (january (set (zeros 744) 10 2) 3 missing (whole 20) 4 (some row)) ≡ 0) × (comparedIn (january marked 3 missing (whole 20) 4 none) ≡ 0)
-    × (comparedIn (january marked 3 missing (whole 20) 24 (some row)) ≡ 0) × (comparedIn (january marked 3 (whole 20) (whole 20) 4 (some row)) ≡ 0)
-    × (comparedIn (january marked 3 missing (hourly row) 4 (some row)) ≡ 0) × (comparedIn (january marked 3 missing missing 4 (some row)) ≡ 0)
+    (comparedIn (january (marked 3) 2 missing (whole 20) 4 row) ≡ 0) × (comparedIn (january (marked 2) 3 missing (whole 20) 4 row) ≡ 0)
+    × (comparedIn (january (marked 3) 3 missing (whole 20) 4 none) ≡ 0) × (comparedIn (january (marked 3) 3 (whole 20) (whole 20) 4 row) ≡ 0)
+    × (comparedIn (january (marked 3) 3 missing (hourly (5 ∷ [])) 4 row) ≡ 0) × (comparedIn (january (marked 3) 3 missing missing 4 row) ≡ 0)
 unfolding working
-sums = (refl, refl, refl, refl, refl, refl, refl, refl)
+sums = (refl, refl, refl, refl, refl, refl)
 
--- out of service with two denials, K 20, N 4, and January 2022 in row 0
-whole-answer :
-    reasonsOf (state (record {
-      opened = 1;
-      contract = contract;
-      date = on 2023 1;
-      service = withDenials (withServing freshService 0) 2;
-      past = record { years = set (zeros 12) 0 2022; latest = 24265 };
-      readings = withFirst (withControl noReadings (givenAs 20)) (givenAs 4);
-      total = kwh 0;
-    }) row) marked
+-- without a reading, in service, with two denials: R 3, whatever the run of 0
+plain-answer :
+    reasonsOf (state (withService (freshRecord contract (on 2023 1)) (withDenials freshService 2)) []) []
     ≡ record {
       clause = 178;
-      reading = kwh 20;
-      neighbour = kwh 4;
+      reading = kwh 0;
+      neighbour = kwh 0;
       power = record { 0 = 3 };
-      peaks = 1;
+      peaks = 0;
       run = 0;
       denials = 2;
       counted = 3;
-      past = on 2022 1;
-      compared = kwh 4;
+      past = noDate;
+      compared = kwh 0;
     }
 unfolding working
-whole-answer = refl
+plain-answer = refl

@@ -12,7 +12,7 @@ use Rattle.record.specs.declared.Record.{Record}
 use Rattle.record.specs.Record.{isSet, kwh}
 use Rattle.rules.specs.Rules.{Measured, missing, hourly, whole, PastHours, none, some, Inputs, hoursIn, peaksIn, pointPower}
 use Rattle.model.specs.Model.{State, slot, lastYear, inputs}
-use Rattle.reasons.specs.declared.Reasons.{Reasons}
+use Rattle.rules.specs.declared.Reasons.{Reasons}
 
 -- the point of document 000: none with a billing reading; else 178 with denials 2; else 179 out of service; else 166
 unfoldable pub clauseOf : Record → ℕ

@@ -18,24 +18,9 @@ use parts::compared;
 use parts::past_month;
 use parts::reading_of;
 use record::Record;
+use rules::Reasons;
 use units::Kw;
 use units::Kwh;
-
-// The point of document 000 that the month is closed by, 0 where there is a billing reading; the reading that the volume
-// comes from; N; P; n; the run and the denials before the closing; R; the past month, year 0 and month 0 for none; and
-// C', 0 where ground 6 does not ask for it.
-pub struct Reasons {
-    pub clause: u32,
-    pub reading: Kwh,
-    pub neighbour: Kwh,
-    pub power: Kw,
-    pub peaks: u64,
-    pub run: u32,
-    pub denials: u32,
-    pub counted: u32,
-    pub past: Date,
-    pub compared: Kwh,
-}
 
 // All 0.
 fn no_reasons() -> Reasons

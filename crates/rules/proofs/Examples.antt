@@ -1,4 +1,5 @@
--- The rules on values: R, N, the test of ground 6, and the nine grounds with their volumes. By computation; assumes nothing.
+-- The rules on values: R, N, the test of ground 6, and the grounds with their volumes. By computation; assumes nothing. A whole month on
+-- ground 6 is in the crate `whole_months`.
 use Prim.Native.Nat.{ℕ}
 use mathlib.Core.Path.{_≡_, refl}
 use mathlib.Core.Bool.{true, false}
@@ -34,13 +35,13 @@ unfolding capacityOf halfUp
 six = (refl, refl, refl, refl, refl)
 
 -- a closing of January 2023: contract, marks, R, billing and control readings, N, past
-abbrev agreed : ℕ → Contract
+abbrev pub agreed : ℕ → Contract
 agreed p = record { billing = 2; control = 2; basis = 1; power = record { 0 = p }; cable = noCable }
 
 abbrev cabled : Contract
 cabled = record { billing = 2; control = 2; basis = 3; power = record { 0 = 0 }; cable = record { amperes = 100; volts = 230; cosine = 0; phases = 3 } }
 
-abbrev january : Contract → List ℕ → ℕ → Measured → Measured → ℕ → PastHours → Inputs
+abbrev pub january : Contract → List ℕ → ℕ → Measured → Measured → ℕ → PastHours → Inputs
 january c marks r b k n past =
     record { contract = c; date = record { year = 2023; month = 1 }; marks = marks; counted = r; billing = b; control = k; neighbour = n; past = past }
 
@@ -48,18 +49,18 @@ january c marks r b k n past =
 abbrev plain : List ℕ
 plain = zeros 744
 
-abbrev marked : List ℕ
+abbrev pub marked : List ℕ
 marked = set (zeros 744) 10 3
 
 -- a past of 5 kWh, all in hour 10
-abbrev past : PastHours
+abbrev pub past : PastHours
 past = some (set (zeros 744) 10 5)
 
 -- ground and month volume
-abbrev Gives : Inputs → ℕ → ℕ → Type 0
+abbrev pub Gives : Inputs → ℕ → ℕ → Type 0
 Gives i g v = (rules i .ground ≡ g) × (rules i .volume ≡ v)
 
-unfoldable working : Unit {0}
+unfoldable pub working : Unit {0}
 unfolding rules onBilling onControl onControlPast onPast byContract evenly byPeaks byWeights asRead groundSixIn powerOf openHours monthHours monthDays isMonth leapYear formula halfUp
     peakPart peakCount workingDays capacitySum capacityOf portion taken spread sharesOver stretched figures
 working = tt
@@ -86,10 +87,12 @@ ground-5 : Gives (january (agreed 1) plain 3 missing (whole 9) 2 past) 5 7 × Gi
 unfolding working
 ground-5 = ((refl, refl), (refl, refl))
 
--- A 1, n 1, d 1, C' 7: by the past; with P 7, A 7: the peak rule
-ground-6 : Gives (january (agreed 1) marked 3 missing (whole 9) 2 past) 6 7 × Gives (january (agreed 7) marked 3 missing (whole 9) 2 past) 5 7
+-- a day with a peak and capacity hour, in which ground 4 would put all of V 7: A 1, n 1, d 1, C' 7, so the past; with P 7, A 7, the peak rule
+ground-6 :
+    (groundSixIn (january (agreed 1) (set (zeros 24) 10 3) 3 missing (whole 9) 2 past) 7 (set (zeros 11) 10 7) ≡ true)
+    × (groundSixIn (january (agreed 7) (set (zeros 24) 10 3) 3 missing (whole 9) 2 past) 7 (set (zeros 11) 10 7) ≡ false)
 unfolding working
-ground-6 = ((refl, refl), (refl, refl))
+ground-6 = (refl, refl)
 
 -- without a control reading: R 2 and a past; else the contract
 ground-7 : rules (january (agreed 1) plain 2 missing missing 4 past) .ground ≡ 7

@@ -1,12 +1,12 @@
 // The bytes of a file, cut into lines.
 ghost use mathlib.Core.Path.{_≡_};
 ghost use Prim.Native.Nat.{_+_, min};
-use super::options::Options;
-use super::player::Progress;
-use super::player::bad_line;
-use super::player::flush;
-use super::player::one_more;
-use super::player::play_line;
+use super::files::flush;
+use player::Layout;
+use player::Progress;
+use player::bad_line;
+use player::one_more;
+use player::play_line;
 use text::put;
 
 // Adds bytes to a line; one with too many is too long as a whole.
@@ -22,7 +22,7 @@ fn add_bytes(bytes: &[u8], p: Progress, line: &mut [u8]) -> Progress {
 }
 
 // The line is whole: it is played, and the next begins.
-fn end_line(o: Options, p: Progress, line: &[u8], store: &mut [u32], out: &mut [u8]) -> Progress {
+fn end_line(o: Layout, p: Progress, line: &[u8], store: &mut [u32], out: &mut [u8]) -> Progress {
     let n = p.length;
     let mut next = p;
     next.line = one_more(p.line);
@@ -42,7 +42,7 @@ fn end_line(o: Options, p: Progress, line: &[u8], store: &mut [u32], out: &mut [
 fn play_part(
     bytes: &[u8],
     ends: bool,
-    o: Options,
+    o: Layout,
     p: Progress,
     line: &mut [u8],
     store: &mut [u32],
@@ -65,7 +65,7 @@ fn behind(end: usize, size: usize) -> usize
 // Plays the lines that end in a part of a file, and keeps what is left of it.
 fn play_bytes(
     bytes: &[u8],
-    o: Options,
+    o: Layout,
     start: Progress,
     line: &mut [u8],
     store: &mut [u32],
@@ -92,7 +92,7 @@ pub struct Step {
 // Reads once, plays what came and writes the answers, so that a line that is typed is answered at once.
 fn play_some(
     fd: i32,
-    o: Options,
+    o: Layout,
     p: Progress,
     line: &mut [u8],
     store: &mut [u32],
@@ -114,7 +114,7 @@ fn play_some(
 // file uses up.
 pub fn play_input(
     fd: i32,
-    o: Options,
+    o: Layout,
     start: Progress,
     line: &mut [u8],
     store: &mut [u32],
@@ -138,7 +138,7 @@ pub fn play_input(
 
 // The last line of a file, where no line feed ends it.
 pub fn end_input(
-    o: Options,
+    o: Layout,
     p: Progress,
     line: &[u8],
     store: &mut [u32],

@@ -2,10 +2,14 @@
 ghost use mathlib.Core.Path.{_≡_};
 ghost use lib.ListN.{length};
 
+mod files;
 mod input;
 mod options;
-mod player;
 
+use files::flush;
+use files::fresh_progress;
+use files::no_file;
+use files::start_file;
 use input::Step;
 use input::end_input;
 use input::play_input;
@@ -14,11 +18,8 @@ use options::Options;
 use options::find_options;
 use options::is_option;
 use options::print_help;
+use player::Layout;
 use player::Progress;
-use player::flush;
-use player::fresh_progress;
-use player::no_file;
-use player::start_file;
 use sheets::answers::put_end;
 
 // Room for the bytes of a line.
@@ -36,7 +37,7 @@ fn empty_store() -> [u32; 10416]
 }
 
 // Plays a file that is open, as a history of its own.
-fn play_lines(fd: i32, o: Options, p: Progress, out: &mut [u8]) -> Step {
+fn play_lines(fd: i32, o: Layout, p: Progress, out: &mut [u8]) -> Step {
     let mut line = line_room();
     let mut store = empty_store();
     let s = play_input(fd, o, p, &mut line, &mut store, out);
@@ -50,7 +51,7 @@ fn play_lines(fd: i32, o: Options, p: Progress, out: &mut [u8]) -> Step {
 
 // The same, where what cannot be read is an error without a line.
 fn play_open(name: &[u8], fd: i32, o: Options, p: Progress, out: &mut [u8]) -> Progress {
-    let s = play_lines(fd, o, p, out);
+    let s = play_lines(fd, o.layout, p, out);
     if s.failed {
         return no_file(name, o, s.progress, out);
     }
@@ -109,7 +110,7 @@ fn play_all(o: Options, out: &mut [u8]) -> Progress {
 // Sums up, and writes what is left.
 fn play(o: Options, out: &mut [u8]) {
     let p = play_all(o, out);
-    let at = put_end(out, p.at, o.tab, p.counts);
+    let at = put_end(out, p.at, o.layout.tab, p.counts);
     let mut end = p;
     end.at = at;
     flush(end, out, true);

@@ -1,13 +1,13 @@
 // The options of the command.
 use libc::STDOUT_FILENO;
+use player::Layout;
 
-// Whether help is printed, which argument is an option that is not known, 0 for none, whether the answers are for
-// programs, whether the hours are printed, and how many files there are.
+// Whether help is printed, which argument is an option that is not known, 0 for none, how the answers are written, and how
+// many files there are.
 pub struct Options {
     pub help: bool,
     pub unknown: usize,
-    pub tab: bool,
-    pub table: bool,
+    pub layout: Layout,
     pub files: usize,
 }
 
@@ -46,11 +46,11 @@ fn with_argument(o: Options, word: &[u8], i: usize) -> Options {
         return r;
     }
     if same(word, b"--tab") {
-        r.tab = true;
+        r.layout.tab = true;
         return r;
     }
     if same(word, b"--hours") {
-        r.table = true;
+        r.layout.table = true;
         return r;
     }
     r.help = true;
@@ -69,11 +69,14 @@ fn with_place(o: Options, i: usize) -> Options {
 
 // The options of the command, wherever they stand.
 pub fn find_options() -> Options {
+    let layout = Layout {
+        tab: false,
+        table: false,
+    };
     let mut o = Options {
         help: false,
         unknown: 0,
-        tab: false,
-        table: false,
+        layout: layout,
         files: 0,
     };
     let n = os::arg_count();
@@ -99,37 +102,19 @@ pub fn print_help(o: Options) {
     if o.unknown != 0 {
         print_unknown(o.unknown);
     }
-    io::write_all(STDOUT_FILENO, b"settle [--hours] [--tab] [FILE ..]\n\n");
     io::write_all(
         STDOUT_FILENO,
-        b"Plays histories of a delivery point, one call a line, and prints what each call answers: accepted,\n",
-    );
-    io::write_all(
-        STDOUT_FILENO,
-        b"or refused with its number; for each closed month a sheet that says how its volume was found.\n",
-    );
-    io::write_all(
-        STDOUT_FILENO,
-        b"Without a file, or for the file -, it plays standard input. Each file is a history of its own.\n\n",
-    );
-    io::write_all(
-        STDOUT_FILENO,
-        b"    --hours   also print the hours of each closed month, a row a day\n",
-    );
-    io::write_all(
-        STDOUT_FILENO,
-        b"    --tab     print records for programs: a word, then numbers, each behind a tab\n",
-    );
-    io::write_all(STDOUT_FILENO, b"    --help    print this\n\n");
-    io::write_all(STDOUT_FILENO, b"A history:\n\n");
-    io::write_all(
-        STDOUT_FILENO,
-        b"    open 2023-01 billing interval control none basis agreed power 100\n",
-    );
-    io::write_all(STDOUT_FILENO, b"    billing hours 31*(8*20 12*60 4*20)\n");
-    io::write_all(STDOUT_FILENO, b"    close week (8*0 3 11*1 4*0) (24*0)\n\n");
-    io::write_all(
-        STDOUT_FILENO,
-        b"docs/HISTORY-FILE.md has the grammar, samples/ a history for each lesson.\n",
+        b"settle [--hours] [--tab] [FILE ..]\n\n\
+        Plays histories of a delivery point, one call a line, and prints what each call answers: accepted,\n\
+        or refused with its number; for each closed month a sheet that says how its volume was found.\n\
+        Without a file, or for the file -, it plays standard input. Each file is a history of its own.\n\n    \
+        --hours   also print the hours of each closed month, a row a day\n    \
+        --tab     print records for programs: a word, then numbers, each behind a tab\n    \
+        --help    print this\n\n\
+        A history:\n\n    \
+        open 2023-01 billing interval control none basis agreed power 100\n    \
+        billing hours 31*(8*20 12*60 4*20)\n    \
+        close week (8*0 3 11*1 4*0) (24*0)\n\n\
+        docs/HISTORY-FILE.md has the grammar, samples/ a history for each lesson.\n",
     );
 }

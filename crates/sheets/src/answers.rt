@@ -1,11 +1,11 @@
 // What is written of a call, an error and all files.
+use super::forms::put_form;
 use super::records::put_record;
 use super::wording::put_call;
 use super::wording::put_error;
 use super::wording::put_refusal;
 use numbers::wide;
 use text::put;
-use text::put_number;
 
 // How many calls were accepted and how many refused, and how many lines were errors.
 pub struct Counts {
@@ -22,13 +22,6 @@ fn calls_of(c: Counts) -> u64 {
     18446744073709551615
 }
 
-// The number of the line, for people.
-fn put_line(out: &mut [u8], at: usize, line: u64) -> usize {
-    let at = put(out, at, b"line ");
-    let at = put_number(out, at, line);
-    put(out, at, b": ")
-}
-
 // A call and its answer.
 pub fn put_answer(
     out: &mut [u8],
@@ -41,14 +34,12 @@ pub fn put_answer(
     if tab {
         return put_record(out, at, b"call", &[line, wide(call), wide(refusal)]);
     }
-    let at = put_line(out, at, line);
+    let at = put_form(out, at, b"line #: ", &[line]);
     let at = put_call(out, at, call);
     if refusal == 0 {
         return put(out, at, b": accepted\n");
     }
-    let at = put(out, at, b": refused ");
-    let at = put_number(out, at, wide(refusal));
-    let at = put(out, at, b", ");
+    let at = put_form(out, at, b": refused #, ", &[wide(refusal)]);
     let at = put_refusal(out, at, refusal);
     put(out, at, b"\n")
 }
@@ -65,29 +56,22 @@ pub fn put_bad_line(
     if tab {
         return put_record(out, at, b"error", &[line, column, wide(error)]);
     }
-    let at = put_line(out, at, line);
-    let at = put(out, at, b"error at column ");
-    let at = put_number(out, at, column);
-    let at = put(out, at, b", ");
+    let at = put_form(out, at, b"line #: error at column #, ", &[line, column]);
     let at = put_error(out, at, error);
     put(out, at, b"\n")
-}
-
-// A number behind a text.
-fn put_count(out: &mut [u8], at: usize, text: &[u8], n: u64) -> usize {
-    let at = put(out, at, text);
-    put_number(out, at, n)
 }
 
 // The sum of all files.
 pub fn put_end(out: &mut [u8], at: usize, tab: bool, c: Counts) -> usize {
     let calls = calls_of(c);
+    let numbers = [calls, c.accepted, c.refused, c.errors];
     if tab {
-        return put_record(out, at, b"end", &[calls, c.accepted, c.refused, c.errors]);
+        return put_record(out, at, b"end", &numbers);
     }
-    let at = put_count(out, at, b"calls ", calls);
-    let at = put_count(out, at, b", accepted ", c.accepted);
-    let at = put_count(out, at, b", refused ", c.refused);
-    let at = put_count(out, at, b", errors ", c.errors);
-    put(out, at, b"\n")
+    put_form(
+        out,
+        at,
+        b"calls #, accepted #, refused #, errors #\n",
+        &numbers,
+    )
 }

@@ -1,19 +1,21 @@
 // The sheet of a closed month, for people and for programs.
-use super::charts::put_chart;
-use super::charts::put_table;
+use super::days::put_chart;
+use super::days::put_table;
+use super::forms::put_choice;
+use super::forms::put_form;
 use super::records::put_record;
 use super::wording::put_clause;
 use super::wording::put_ground;
 use super::wording::put_month_name;
 use calendar::Date;
+use marks::peak::peak_part;
 use numbers::least;
+use numbers::pick;
 use numbers::wide;
-use reasons::Reasons;
 use rules::Figures;
+use rules::Reasons;
 use text::put;
-use text::put_number;
 use units::Kwh;
-use units::energy;
 
 // A closed month: its line and date, T, the figures of its closing, why, and the total behind it.
 pub struct Month {
@@ -25,11 +27,11 @@ pub struct Month {
     pub total: Kwh,
 }
 
-// A, the part of V that the peak rule puts into the peak hours: min(V, n x P).
-fn peak_part(m: Month) -> u64 {
+// A, the part of V that the peak rule puts into the peak hours.
+fn peak_volume(m: Month) -> u64 {
     let n = least(m.why.peaks, 744) as u32;
-    let most = energy(n, m.why.power);
-    least(m.figures.volume.0, most.0)
+    let a = peak_part(m.figures.volume, n, m.why.power);
+    a.0
 }
 
 // A product of numbers below 2^32; a larger one counts as that.
@@ -54,7 +56,7 @@ pub fn put_month_record(out: &mut [u8], at: usize, m: Month) -> usize {
         why.neighbour.0,
         wide(why.power.0),
         why.peaks,
-        peak_part(m),
+        peak_volume(m),
         f.days,
         f.sum.0,
         why.compared.0,
@@ -69,29 +71,24 @@ pub fn put_month_record(out: &mut [u8], at: usize, m: Month) -> usize {
     put_record(out, at, b"sheet", &fields)
 }
 
-// A number between two texts.
-fn put_around(out: &mut [u8], at: usize, before: &[u8], n: u64, behind: &[u8]) -> usize {
-    let at = put(out, at, before);
-    let at = put_number(out, at, n);
-    put(out, at, behind)
-}
-
 // A month by name and year.
 fn put_date(out: &mut [u8], at: usize, d: Date) -> usize {
     let at = put_month_name(out, at, d.month);
-    let at = put(out, at, b" ");
-    put_number(out, at, wide(d.year))
+    put_form(out, at, b" #", &[wide(d.year)])
 }
 
 // The reading of a volume less the neighbour's.
-fn put_difference(out: &mut [u8], at: usize, name: &[u8], why: Reasons) -> usize {
-    let at = put(out, at, name);
-    let at = put_around(out, at, b" ", why.reading.0, b" kWh less N ");
-    let at = put_number(out, at, why.neighbour.0);
+fn put_difference(out: &mut [u8], at: usize, why: Reasons) -> usize {
+    let at = put_form(
+        out,
+        at,
+        b" # kWh less N # kWh",
+        &[why.reading.0, why.neighbour.0],
+    );
     if why.reading.0 < why.neighbour.0 {
-        return put(out, at, b" kWh, not below 0");
+        return put(out, at, b", not below 0");
     }
-    put(out, at, b" kWh")
+    at
 }
 
 // How a volume by the peak rule goes over the hours.
@@ -99,34 +96,43 @@ fn put_peaks(out: &mut [u8], at: usize, m: Month) -> usize {
     if m.why.peaks == 0 {
         return put(out, at, b"; evenly, since n is 0");
     }
-    let at = put_around(out, at, b"; A ", peak_part(m), b" kWh evenly over ");
-    let at = put_number(out, at, m.why.peaks);
     let p = m.why.power;
-    let at = put_around(out, at, b" peak hours, at most P ", wide(p.0), b" kW each");
-    put(out, at, b", the rest evenly over the others")
+    put_form(
+        out,
+        at,
+        b"; A # kWh evenly over # peak hours, at most P # kW each, the rest evenly over the others",
+        &[peak_volume(m), m.why.peaks, wide(p.0)],
+    )
 }
 
 // How V was found.
 fn put_found(out: &mut [u8], at: usize, m: Month) -> usize {
     let ground = m.figures.ground;
-    if (ground == 1) | (ground == 3) {
-        return put(out, at, b", the sum of the hours read");
-    }
-    if ground == 7 {
-        return put(out, at, b", the sum of the hours taken from the past");
-    }
     if ground == 8 {
         let p = m.why.power;
-        let at = put_around(out, at, b", P ", wide(p.0), b" kW for T ");
-        return put_around(out, at, b"", wide(m.hours), b" hours");
-    }
-    if ground == 9 {
-        return put_around(
+        return put_form(
             out,
             at,
-            b", the cable formula at T ",
-            wide(m.hours),
-            b" hours",
+            b", P # kW for T # hours",
+            &[wide(p.0), wide(m.hours)],
+        );
+    }
+    if ground == 9 {
+        return put_form(
+            out,
+            at,
+            b", the cable formula at T # hours",
+            &[wide(m.hours)],
+        );
+    }
+    if (ground == 1) | (ground == 3) | (ground == 7) {
+        let from = pick(ground == 7, 1, 0);
+        return put_choice(
+            out,
+            at,
+            b", the sum of the hours read\n\
+            , the sum of the hours taken from the past\n",
+            from,
         );
     }
     put_from_reading(out, at, m)
@@ -135,12 +141,10 @@ fn put_found(out: &mut [u8], at: usize, m: Month) -> usize {
 // The same on grounds 2, 4, 5 and 6, where V is a reading less the neighbour's.
 fn put_from_reading(out: &mut [u8], at: usize, m: Month) -> usize {
     let ground = m.figures.ground;
-    if ground == 2 {
-        let at = put_difference(out, at, b", B", m.why);
-        return put_peaks(out, at, m);
-    }
-    let at = put_difference(out, at, b", K", m.why);
-    if ground == 5 {
+    let name = pick(ground == 2, 0, 1);
+    let at = put_choice(out, at, b", B\n, K\n", name);
+    let at = put_difference(out, at, m.why);
+    if (ground == 2) | (ground == 5) {
         return put_peaks(out, at, m);
     }
     at
@@ -148,18 +152,16 @@ fn put_from_reading(out: &mut [u8], at: usize, m: Month) -> usize {
 
 // R, and why.
 fn put_counted(out: &mut [u8], at: usize, why: Reasons) -> usize {
-    let at = put_around(
+    let at = put_form(
         out,
         at,
-        b"    R         ",
-        wide(why.counted),
-        b": the run of ",
+        b"    R         #: the run of # plus 1",
+        &[wide(why.counted), wide(why.run)],
     );
-    let at = put_around(out, at, b"", wide(why.run), b" plus 1");
     if wide(why.counted) != wide(why.run) + 1 {
         return put(out, at, b", and at least 3 with two denials\n");
     }
-    put_around(out, at, b"; denials ", wide(why.denials), b"\n")
+    put_form(out, at, b"; denials #\n", &[wide(why.denials)])
 }
 
 // Whether a month is the same month of the year before.
@@ -174,7 +176,7 @@ fn is_tested(m: Month) -> bool {
     ((ground == 5) | (ground == 6)) & (3 <= why.counted) & (0 < why.peaks) & (why.past.year != 0)
 }
 
-// The past month, and whether the ground used it.
+// The past month, by which rule it is the past, and whether the ground used it.
 fn put_past(out: &mut [u8], at: usize, m: Month) -> usize {
     let past = m.why.past;
     let at = put(out, at, b"    past      ");
@@ -182,23 +184,24 @@ fn put_past(out: &mut [u8], at: usize, m: Month) -> usize {
         return put(out, at, b"none\n");
     }
     let at = put_date(out, at, past);
-    let at = put_which(out, at, is_year_before(past, m.date));
+    let which = pick(is_year_before(past, m.date), 0, 1);
+    let at = put_choice(
+        out,
+        at,
+        b", the same month last year\n\
+        , the latest month measured\n",
+        which,
+    );
     let ground = m.figures.ground;
-    if (ground == 4) | (ground == 6) | (ground == 7) {
-        return put(out, at, b", used\n");
-    }
-    if is_tested(m) {
-        return put(out, at, b", used in the test alone\n");
-    }
-    put(out, at, b", not used\n")
-}
-
-// By which rule a month is the past.
-fn put_which(out: &mut [u8], at: usize, same: bool) -> usize {
-    if same {
-        return put(out, at, b", the same month last year");
-    }
-    put(out, at, b", the latest month measured")
+    let used = (ground == 4) | (ground == 6) | (ground == 7);
+    let role = pick(used, 0, pick(is_tested(m), 1, 2));
+    let at = put_choice(
+        out,
+        at,
+        b", used\n, used in the test alone\n, not used\n",
+        role,
+    );
+    put(out, at, b"\n")
 }
 
 // The test between grounds 5 and 6, where there is one.
@@ -207,53 +210,59 @@ fn put_test(out: &mut [u8], at: usize, m: Month) -> usize {
     if !is_tested(m) {
         return at;
     }
-    let low = product(peak_part(m), m.figures.days);
+    let low = product(peak_volume(m), m.figures.days);
     let high = product(why.peaks, why.compared.0);
-    let at = put_around(
+    let at = put_form(
         out,
         at,
-        b"    test      A times d is ",
-        low,
-        b", n times C' is ",
+        b"    test      A times d is #, n times C' is #: ",
+        &[low, high],
     );
-    let at = put_number(out, at, high);
-    if m.figures.ground == 6 {
-        return put(out, at, b": less, so the past\n");
-    }
-    put(out, at, b": not less, so the peak rule\n")
+    let outcome = pick(m.figures.ground == 6, 0, 1);
+    let at = put_choice(
+        out,
+        at,
+        b"less, so the past\n\
+        not less, so the peak rule\n",
+        outcome,
+    );
+    put(out, at, b"\n")
 }
 
 // n, d, C, capacity and the total.
 fn put_figures(out: &mut [u8], at: usize, m: Month) -> usize {
     let f = m.figures;
-    let at = put_around(out, at, b"    n         ", m.why.peaks, b" peak hours\n");
-    let at = put_around(out, at, b"    d         ", f.days, b" working days\n");
-    let at = put_around(
+    put_form(
         out,
         at,
-        b"    C         ",
-        f.sum.0,
-        b" kWh in the capacity hours\n",
-    );
-    let at = put_around(out, at, b"    capacity  ", wide(f.capacity.0), b" kW\n");
-    put_around(out, at, b"    total     ", m.total.0, b" kWh\n")
+        b"    n         # peak hours\n    \
+        d         # working days\n    \
+        C         # kWh in the capacity hours\n    \
+        capacity  # kW\n    \
+        total     # kWh\n",
+        &[m.why.peaks, f.days, f.sum.0, wide(f.capacity.0), m.total.0],
+    )
 }
 
 // The month and its ground.
 fn put_head(out: &mut [u8], at: usize, m: Month) -> usize {
     let at = put(out, at, b"    month     ");
     let at = put_date(out, at, m.date);
-    let at = put_around(out, at, b", T ", wide(m.hours), b" hours\n");
-    let at = put_around(out, at, b"    ground    ", wide(m.figures.ground), b": ");
-    let at = put_ground(out, at, m.figures.ground);
-    put(out, at, b"\n")
+    let ground = m.figures.ground;
+    let at = put_form(
+        out,
+        at,
+        b", T # hours\n    ground    #: ",
+        &[wide(m.hours), wide(ground)],
+    );
+    put_ground(out, at, ground)
 }
 
 // The clause, V and how it was found.
 fn put_volume(out: &mut [u8], at: usize, m: Month) -> usize {
-    let at = put(out, at, b"    clause    ");
+    let at = put(out, at, b"\n    clause    ");
     let at = put_clause(out, at, m.why.clause);
-    let at = put_around(out, at, b"\n    V         ", m.figures.volume.0, b" kWh");
+    let at = put_form(out, at, b"\n    V         # kWh", &[m.figures.volume.0]);
     let at = put_found(out, at, m);
     put(out, at, b"\n")
 }

@@ -1,21 +1,6 @@
 // Text and numbers into a buffer that the caller lends, at a place; the answer is the place behind them. Text for which
 // there is no room is left out whole.
-ghost use Prim.Native.Nat.{_+_, _≤_};
-ghost use lib.ListN.{length};
-ghost use Rattle.numbers.specs.Lists.{at, Filled};
 ghost use Rattle.text.specs.Text.{Put, Numbered};
-
-// The bytes of a text into the front of a part of the buffer.
-fn copy(part: &mut [u8], text: &[u8])
-    requires { ⌜ length (now text) ≤ length (now part) ⌝ }
-    ensures { λ _. ⌜ Filled (at (now (text .entry))) (now (part .entry)) (now (part .exit)) (length (now (text .entry))) ⌝ }
-{
-    let mut k = 0;
-    while k < text.len() {
-        part[k] = text[k];
-        k += 1;
-    }
-}
 
 // A text at a place of the buffer. Where it has no room nothing changes, and the place stays.
 pub fn put(out: &mut [u8], place: usize, text: &[u8]) -> usize
@@ -24,7 +9,7 @@ pub fn put(out: &mut [u8], place: usize, text: &[u8]) -> usize
     if place <= out.len() {
         if text.len() <= out.len() - place {
             let end = place + text.len();
-            copy(&mut out[place..end], text);
+            bytes::copy(text, &mut out[place..end]);
             return end;
         }
     }

@@ -7,8 +7,9 @@ use native.Mathlib.Nat.{not-suc-le-zero, le-of-suc-le-suc}
 use native.Mathlib.Numerals.{add-one}
 use native.Mathlib.Omega.{arith}
 use lib.Dec.{eqb}
-use lib.ListN.{length, drop, getD}
+use lib.ListN.{length, getD}
 use lib.Seq.{drop-cons}
+use Rattle.numbers.proofs.Laws.{drop-past}
 use Rattle.tokens.specs.Tokens.{classOf, run, spanFrom, byteAt, grownBy, valueOf}
 
 -- an element does not depend on what stands past the end
@@ -26,12 +27,6 @@ span-on class line i l e = rw (add-one, drop-cons line i 0 l, e) (omega arith)
 pub span-stop : (class : ℕ) (line : List ℕ) (i : ℕ) → i < length line → eqb (classOf (getD line i 0)) class ≡ false → spanFrom class line i ≡ i
 unfolding spanFrom run
 span-stop class line i l e = rw (drop-cons line i 0 l, e) (omega arith)
-
-pub drop-past : (l : List ℕ) (n : ℕ) → length l ≤ n → drop n l ≡ []
-drop-past [] zero h = refl
-drop-past [] (suc n) h = refl
-drop-past (x ∷ xs) zero h = absurd (not-suc-le-zero h)
-drop-past (x ∷ xs) (suc n) h = drop-past xs n (le-of-suc-le-suc h)
 
 -- and so does the end of the line
 pub span-end : (class : ℕ) (line : List ℕ) (i : ℕ) → length line ≤ i → spanFrom class line i ≡ i

@@ -1,6 +1,5 @@
 // The tokens of a line of a history file (docs/HISTORY-FILE.md, 'Words of a line').
 ghost use mathlib.Core.Path.{_≡_};
-ghost use mathlib.Core.Bool.{cond};
 ghost use Prim.Native.Nat.{_-_};
 ghost use lib.Dec.{ltb};
 ghost use Rattle.tokens.specs.Tokens.{classOf, spanFrom, byteAt, placeBehind, Counting, grownBy, valueOf, numberToken, wordToken, tokenAt};
@@ -82,13 +81,6 @@ fn behind(line: &[u8], i: usize) -> usize
     if i < line.len() { i + 1 } else { i }
 }
 
-// x where b holds, else y.
-fn pick_place(b: bool, x: usize, y: usize) -> usize
-    ensures { λ r. ⌜ r ≡ cond b x y ⌝ }
-{
-    if b { x } else { y }
-}
-
 // Whether more than so many bytes stand between two places.
 fn size_above(from: usize, to: usize, most: usize) -> bool
     ensures { λ r. ⌜ r ≡ ltb most (to - from) ⌝ }
@@ -134,7 +126,7 @@ fn number_token(line: &[u8], from: usize) -> Token
     let long = size_above(from, to, 18);
     let v = value(line, from, to, 10, 16);
     let kind = pick(long, LONG, pick(star, COUNT, NUMBER));
-    let next = pick_place(star, behind(line, to), to);
+    let next = pick_wide(star, behind(line, to) as u64, to as u64) as usize;
     Token {
         kind: kind,
         value: v,

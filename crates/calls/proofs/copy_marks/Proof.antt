@@ -16,7 +16,7 @@ abbrev μ-loop : tie.MeasureT-loop
 μ-loop list marks₀ n k₀ marks k = n - k
 
 loop-holds : tie.Need-loop-holds Inv-loop μ-loop
-loop-holds c = (omega arith, omega (arith, c .fewer .ensures), omega (arith, c .fewer .ensures), filled-none _ _)
+loop-holds c = (omega arith, omega (arith, c .least .ensures), omega (arith, c .least .ensures), filled-none _ _)
 
 loop-again : tie.Need-loop-again Inv-loop μ-loop
 loop-again c =
@@ -26,7 +26,7 @@ loop-again c =
 returns : tie.Need-returns Inv-loop μ-loop
 returns c =
     let i = c .before .loop .inv in
-    record { size = c .before .before .fewer .ensures; filled = filled-end (i .3) (omega arith) (omega arith) }
+    record { size = c .before .before .least .ensures; filled = filled-end (i .3) (omega arith) (omega arith) }
 
 pub copy-marks-spec : {M : Type 1} → statement M
 copy-marks-spec =

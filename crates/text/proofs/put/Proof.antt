@@ -11,7 +11,7 @@ returns c =
     let k = c .before .before .before .before in
     let a = k .before .before .before .before .args in
     record {
-      is = put-made (a .text .now) (a .place) (a .out .now) _ (k .before .if1 .taken) (k .if2 .taken) (c .before .before .copy .ensures);
+      is = put-made (a .text .now) (a .place) (a .out .now) _ (k .before .if1 .taken) (k .if2 .taken) (c .before .before .copy .ensures .1);
       next = rw (le-leb _ _ (k .before .if1 .taken), le-leb _ _ (k .if2 .taken));
     }
 

@@ -9,11 +9,11 @@ use Rattle.marks.proofs.peak.peak_rule.Tie as tie
 
 returns : tie.Need-returns
 returns c =
-    let least = c .before .before .before .before .before .before .before in
-    let counted = least .before .before .before in
+    let part = c .before .before .before .before .before .before .before .before in
+    let counted = part .before .before in
     peak-shared _ _ _
-    (part-of (least .before .before .flag-peaks .ensures) (counted .before .if1 .taken))
-    (least .least .ensures) (least .before .energy .ensures) (counted .count-peaks .ensures)
+    (part-of (part .before .flag-peaks .ensures) (counted .before .if1 .taken))
+    (part .peak-part .ensures) (counted .count-peaks .ensures)
     (rw sub-zero at (c .before .before .share-apart .ensures))
 
 pub peak-rule-spec : {M : Type 1} → statement M
@@ -22,7 +22,6 @@ peak-rule-spec =
     (tie.spec
     (λ c κs. search needs)
     (λ c κs. search needs)
-    (λ c κs. tt)
     (λ c κs. tt)
     (λ c. search needs)
     (λ c. search needs)

@@ -1,6 +1,0 @@
-use borrow.Author.Tests.{lt-ltb, le-ltb}
-use Rattle.sheets.proofs.charts.larger.Statement.{statement}
-use Rattle.sheets.proofs.charts.larger.Tie as tie
-
-pub larger-spec : {M : Type 1} → statement M
-larger-spec = tie.close (tie.spec (λ c. rw (lt-ltb _ _ (c .if1 .taken))) (λ c. rw (le-ltb _ _ (c .if1 .left))))

@@ -1,0 +1,3 @@
+pub mod Grounds
+pub mod Closings
+pub mod Compared
