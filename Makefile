@@ -23,7 +23,7 @@ all: $(archive)
 
 # The time is set because rt may leave an archive that did not change as it is.
 $(compiled): $(sources)
-	rt staticlib capi
+	tools/tmpdir rt staticlib capi
 	touch $@
 
 $(archive): $(compiled)
@@ -59,7 +59,7 @@ program := target/bin/settle
 
 # rt check also runs the program on crates/settle/stdin and compares what it prints.
 $(program): $(sources)
-	rt check settle
+	tools/tmpdir rt check settle
 	touch $@
 
 settle: $(program)
