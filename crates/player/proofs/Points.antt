@@ -20,7 +20,8 @@ pub makes-state : {line : Line} {list : List ℕ} {r : Record} {store buffer : L
     → Makes line list r store buffer a store′ buffer′ → state (a .after) store′ ≡ leaves (state r store) (callBy line list buffer)
 makes-state m = does-state (m .done)
 
-pub opens-state : {o : Opening} {before : List ℕ} {a : Answer} {after : List ℕ} → Opens o before a after → state (a .after) after ≡ openLeaves o before
+pub opens-state : {o : Opening} {before : List ℕ} {a : Answer} {after : List ℕ}
+    → Opens o before a after → state (a .after) after ≡ openLeaves o before
 unfolding openAnswer
 opens-state d = λ i. record { point = ap (λ (x : Answer). x .after) (d .answered) i; store = d .left i }
 

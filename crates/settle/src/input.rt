@@ -21,21 +21,33 @@ fn add_bytes(bytes: &[u8], p: Progress, line: &mut [u8]) -> Progress {
     r
 }
 
+// Plays a line of so many bytes; one that was too long is an error.
+fn play_whole(
+    n: usize,
+    long: bool,
+    o: Layout,
+    p: Progress,
+    line: &[u8],
+    store: &mut [u32],
+    out: &mut [u8],
+) -> Progress {
+    if long {
+        return bad_line(p, o, out, 16385, 1);
+    }
+    if n <= line.len() {
+        return play_line(&line[..n], o, p, store, out);
+    }
+    p
+}
+
 // The line is whole: it is played, and the next begins.
 fn end_line(o: Layout, p: Progress, line: &[u8], store: &mut [u32], out: &mut [u8]) -> Progress {
-    let n = p.length;
     let mut next = p;
     next.line = one_more(p.line);
     next.length = 0;
     next.long = false;
-    if p.long {
-        return flush(bad_line(next, o, out, 16385, 1), out, false);
-    }
-    if n <= line.len() {
-        let r = play_line(&line[..n], o, next, store, out);
-        return flush(r, out, false);
-    }
-    next
+    let played = play_whole(p.length, p.long, o, next, line, store, out);
+    flush(played, out, false)
 }
 
 // Bytes of a line, and its end where they have one behind them.

@@ -18,7 +18,8 @@ unfolding spanFrom
 span-from class line from = omega arith
 
 -- from a byte of the kind on, the run is not empty
-span-some : (class : ℕ) (line : List ℕ) (from : ℕ) → from < length line → eqb (classOf (byteAt line from)) class ≡ true → from < spanFrom class line from
+span-some : (class : ℕ) (line : List ℕ) (from : ℕ) → from < length line
+    → eqb (classOf (byteAt line from)) class ≡ true → from < spanFrom class line from
 unfolding byteAt
 span-some class line from l e =
     let same = span-on class line from l (rw (getD-any line from 0 35 l) e) in

@@ -1,11 +1,11 @@
 use native.Mathlib.Omega.{arith}
 use borrow.Author.Needs.{needs}
 use lib.ListN.{length-take}
-use Rattle.settle.proofs.input.end_line.Statement.{statement}
-use Rattle.settle.proofs.input.end_line.Tie as tie
+use Rattle.settle.proofs.input.play_whole.Statement.{statement}
+use Rattle.settle.proofs.input.play_whole.Tie as tie
 
-pub end-line-spec : {M : Type 1} → statement M
-end-line-spec =
+pub play-whole-spec : {M : Type 1} → statement M
+play-whole-spec =
     tie.close
     (tie.spec
     (λ c κs. search needs)
