@@ -62,8 +62,9 @@ pub fn peak_rule(volume: Kwh, power: Kw, marks: &[u8], hours: &mut [u32]) -> boo
     if t <= 744 {
         let n = count_peaks(marks);
         let flags = flag_peaks(marks);
-        let a = peak_part(volume, n, power);
-        return share_apart(a, Kwh(volume.0 - a.0), &flags[0..t], hours);
+        let part = peak_part(volume, n, power);
+        let a = part.0;
+        return share_apart(part, Kwh(volume.0 - a), &flags[0..t], hours);
     }
     false
 }

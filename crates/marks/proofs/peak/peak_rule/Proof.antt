@@ -9,7 +9,7 @@ use Rattle.marks.proofs.peak.peak_rule.Tie as tie
 
 returns : tie.Need-returns
 returns c =
-    let part = c .before .before .before .before .before .before .before .before in
+    let part = c .before .before .before .before .before .before .before in
     let counted = part .before .before in
     peak-shared _ _ _
     (part-of (part .before .flag-peaks .ensures) (counted .before .if1 .taken))
@@ -26,7 +26,7 @@ peak-rule-spec =
     (λ c. search needs)
     (λ c. search needs)
     (λ c. search needs)
-    (λ c. omega (arith, c .before .before .before .before .flag-peaks .ensures .long))
+    (λ c. omega (arith, c .before .before .before .flag-peaks .ensures .long))
     (λ c κs. tt)
     (λ c. search needs)
     returns
