@@ -20,6 +20,7 @@ program := target/bin/settle
 installed := "$(DESTDIR)$(INCLUDEDIR)/sallowbingo.h" "$(DESTDIR)$(LIBDIR)/libsallowbingo.a" \
     "$(DESTDIR)$(LIBDIR)/pkgconfig/sallowbingo.pc" "$(DESTDIR)$(BINDIR)/settle"
 kit := $(shell command -v rt 2>/dev/null)
+export RT_JOBS ?= $(shell tools/jobs)
 needs_kit = $(if $(kit),,@echo "$@ is built with the Rattle kit, and its command rt is not on the PATH"; exit 2)
 
 .PHONY: all install uninstall check settle play
