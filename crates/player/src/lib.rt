@@ -31,8 +31,8 @@ pub struct Layout {
     pub table: bool,
 }
 
-// How far the command has got: the record of the point, the counts of all files, the number of the file and of the line, how many of its
-// bytes are there and whether there were too many, and the place behind what is written.
+// How far the command has got: the record of the point, the counts of all files, the number of the file and of the line,
+// how many of its bytes are there and whether there were too many, and the place behind what is written.
 pub struct Progress {
     pub record: Record,
     pub counts: Counts,
