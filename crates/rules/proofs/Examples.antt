@@ -14,6 +14,7 @@ use Rattle.marks.specs.Marks.{peakCount, workingDays, capacitySum, capacityOf}
 use Rattle.marks.specs.Peak.{peakPart}
 use Rattle.contract.specs.declared.Contract.{Contract}
 use Rattle.contract.specs.Contract.{noCable, powerOf}
+use Rattle.rules.specs.declared.Figures.{Figures}
 use Rattle.rules.specs.Rules.{Measured, missing, hourly, whole, unstated, stated, PastHours, none, some, Inputs, countedOf, neighbourOf, asRead, byWeights, byPeaks, evenly, byContract, onPast, groundSix, groundSixIn, onControlPast, onControl, onBilling, rules, figures}
 
 -- R: the run plus 1, and 3 if that is less while denials are 2
@@ -107,9 +108,10 @@ ground-9 : Gives (january cabled plain 3 missing missing 0 past) 9 30802
 unfolding working
 ground-9 = (refl, refl)
 
--- what a closing returns: C 4 + 3 in the capacity hours of two days, d 2, capacity 7 / 2 rounded half up
-returned :
-    figures (asRead 1 (set (set (zeros 744) 10 4) 34 3)) (set marked 34 2)
-    ≡ record { ground = 1; volume = record { 0 = 7 }; capacity = record { 0 = 4 }; sum = record { 0 = 7 }; days = 2 }
+-- what a closing of two days returns: V 7, C 4 + 3 in their capacity hours, d 2, capacity 7 / 2 rounded half up
+abbrev twoDays : Figures
+twoDays = figures (asRead 1 (set (set (zeros 48) 10 4) 34 3)) (set (set (zeros 48) 10 3) 34 2)
+
+returned : (twoDays .ground ≡ 1) × (twoDays .volume .0 ≡ 7) × (twoDays .sum .0 ≡ 7) × (twoDays .days ≡ 2) × (twoDays .capacity .0 ≡ 4)
 unfolding working
-returned = refl
+returned = (refl, refl, refl, refl, refl)
