@@ -35,7 +35,9 @@ unfolding charting
 sums = (refl, refl, refl, refl, refl, refl, refl, refl, refl, refl, refl, refl, refl, refl)
 
 -- of the days that are asked for
-largest : (largestDay hours 0 ≡ 0) × (largestDay hours 1 ≡ 24) × (largestDay hours 2 ≡ 24) × (largestDay hours 3 ≡ 100) × (largestDay hours 31 ≡ 100) × (largestDay [] 31 ≡ 0)
+largest :
+    (largestDay hours 0 ≡ 0) × (largestDay hours 1 ≡ 24) × (largestDay hours 2 ≡ 24) × (largestDay hours 3 ≡ 100)
+    × (largestDay hours 31 ≡ 100) × (largestDay [] 31 ≡ 0)
 unfolding charting
 largest = (refl, refl, refl, refl, refl, refl)
 

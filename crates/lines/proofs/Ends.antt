@@ -16,7 +16,8 @@ use Rattle.tokens.proofs.Ends.{token-on, token-end}
 use Rattle.lines.specs.declared.Line.{Line}
 use Rattle.lines.specs.Changes.{failed, listing, still}
 use Rattle.lines.specs.Names.{is, callOf, keyOf, absent, wordValue, expectedFor, largestFor}
-use Rattle.lines.specs.Modes.{ifWord, begun, inCall, taken, inValue, inDash, valueIn, namedAs, inArgument, inForm, inLast, adding, counting, wordIn, inList, closing, inGroup, inCounted, inDay}
+use Rattle.lines.specs.Modes.{ifWord, begun, inCall, taken, inValue, inDash, valueIn, namedAs, inArgument, inForm, inLast, adding}
+use Rattle.lines.specs.Modes.{counting, wordIn, inList, closing, inGroup, inCounted, inDay}
 use Rattle.lines.specs.Lines.{freshLine, steppedInCall, stepped, nextIn, Read, read, turned, turns, readLine, Ended}
 use Rattle.lines.proofs.Turns.{turned-done}
 

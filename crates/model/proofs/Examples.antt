@@ -15,16 +15,19 @@ use Rattle.contract.specs.declared.Contract.{Contract}
 use Rattle.contract.specs.Contract.{noCable, kept}
 use Rattle.record.specs.declared.Record.{Record}
 use Rattle.record.specs.declared.Service.{Service}
-use Rattle.record.specs.Record.{givenAs, noReadings, zeroRecord, freshRecord, freshService, withDate, withService, withReadings, withPast, withServing, withDenials, withBilling, withControl, withFirst, withSecond}
+use Rattle.record.specs.Record.{givenAs, noReadings, zeroRecord, freshRecord, freshService, withDate, withService, withReadings, withPast}
+use Rattle.record.specs.Record.{withServing, withDenials, withBilling, withControl, withFirst, withSecond}
 use Rattle.validity.specs.Valid.{volumeLimit, valid}
 use Rattle.rows.specs.Store.{putRow, storeFits}
-use Rattle.rules.specs.Calls.{Opening, Call, billingHours, controlHours, billingVolume, controlVolume, neighbour, failure, admission, denial, permission, closing}
+use Rattle.rules.specs.Calls.{Opening, Call, billingHours, controlHours, billingVolume, controlVolume, neighbour, failure, admission}
+use Rattle.rules.specs.Calls.{denial, permission, closing}
 use Rattle.rules.specs.Rules.{none, some, becomesPast}
 use Rattle.model.specs.Refusals.{refuse, anyone, ownRefusal, openRefusal}
 use Rattle.model.specs.Model.{State, state, isRepeat, afterFailure, pastIn, closedWith, accept}
 
 unfoldable pub judging : Unit {0}
-unfolding refuse ownRefusal openRefusal valid volumeLimit noneAbove storeFits isMonth monthDays monthHours openHours leapYear monthNumber dateOf cableFits agreedFits listFits high crowded unmatched accept pastIn
+unfolding refuse ownRefusal openRefusal valid volumeLimit noneAbove storeFits isMonth monthDays monthHours openHours leapYear monthNumber
+    dateOf cableFits agreedFits listFits high crowded unmatched accept pastIn
 judging = tt
 
 abbrev pub on : ℕ → ℕ → Date
@@ -42,15 +45,22 @@ served r s = withService r s
 
 -- ANYONE: 1 before 2 before 3 before the call's own
 any-number :
-    (anyone 10415 zeroRecord 20 ≡ 1) × (anyone 10417 (point 1 2) 20 ≡ 1) × (anyone 10416 zeroRecord 20 ≡ 2) × (anyone 10416 (withDate (point 1 2) (on 3000 2)) 20 ≡ 2)
-    × (anyone 10416 (withDate (point 1 2) (on 3000 1)) 20 ≡ 3) × (anyone 10416 (withDate (point 1 2) (on 2999 12)) 20 ≡ 20) × (anyone 10416 (point 1 2) 0 ≡ 0)
+    (anyone 10415 zeroRecord 20 ≡ 1) × (anyone 10417 (point 1 2) 20 ≡ 1) × (anyone 10416 zeroRecord 20 ≡ 2)
+    × (anyone 10416 (withDate (point 1 2) (on 3000 2)) 20 ≡ 2)
+    × (anyone 10416 (withDate (point 1 2) (on 3000 1)) 20 ≡ 3) × (anyone 10416 (withDate (point 1 2) (on 2999 12)) 20 ≡ 20)
+    × (anyone 10416 (point 1 2) 0 ≡ 0)
 unfolding judging
 any-number = (refl, refl, refl, refl, refl, refl, refl)
 
 -- OPENING
 abbrev opening : ℕ → ℕ → ℕ → ℕ → ℕ → ℕ → Cable → List ℕ → ℕ → Opening
 opening y m b k basis p cable currents place =
-    record { asked = record { billing = b; control = k; basis = basis; power = record { 0 = p }; cable = cable }; date = on y m; currents = currents; place = place }
+    record {
+      asked = record { billing = b; control = k; basis = basis; power = record { 0 = p }; cable = cable };
+      date = on y m;
+      currents = currents;
+      place = place;
+    }
 
 abbrev cable : ℕ → ℕ → ℕ → ℕ → Cable
 cable i u c f = record { amperes = i; volts = u; cosine = c; phases = f }
@@ -64,9 +74,12 @@ opening-numbers :
     × (openRefusal 10416 (opening 2023 1 1 0 4 100 noCable [] 0) ≡ 12) × (openRefusal 10416 (opening 2023 1 1 0 1 0 noCable [] 0) ≡ 12)
     × (openRefusal 10416 (opening 2023 1 1 0 2 1000001 noCable [] 0) ≡ 12) × (openRefusal 10416 (opening 2023 1 1 0 3 0 (cable 0 230 900 1) [] 0) ≡ 13)
     × (openRefusal 10416 (opening 2023 1 1 0 2 100 noCable [] 0) ≡ 14) × (openRefusal 10416 (opening 2023 1 1 0 2 100 noCable (replicate 65 1) 0) ≡ 14)
-    × (openRefusal 10416 (opening 2023 1 1 0 2 100 noCable (1 ∷ 2001 ∷ []) 0) ≡ 14) × (openRefusal 10416 (opening 2023 1 1 0 2 100 noCable (1 ∷ 0 ∷ []) 0) ≡ 14)
-    × (openRefusal 10416 (opening 2023 1 1 0 2 100 noCable (1 ∷ 1 ∷ []) 2) ≡ 14) × (openRefusal 10416 (opening 2023 1 1 0 2 100 noCable (1 ∷ 1 ∷ []) 1) ≡ 0)
-    × (openRefusal 10416 (opening 2014 1 1 0 1 1000000 (cable 0 0 0 9) [] 7) ≡ 0) × (openRefusal 10416 (opening 2999 12 2 2 3 0 (cable 2000 250000 0 3) [] 0) ≡ 0)
+    × (openRefusal 10416 (opening 2023 1 1 0 2 100 noCable (1 ∷ 2001 ∷ []) 0) ≡ 14)
+    × (openRefusal 10416 (opening 2023 1 1 0 2 100 noCable (1 ∷ 0 ∷ []) 0) ≡ 14)
+    × (openRefusal 10416 (opening 2023 1 1 0 2 100 noCable (1 ∷ 1 ∷ []) 2) ≡ 14)
+    × (openRefusal 10416 (opening 2023 1 1 0 2 100 noCable (1 ∷ 1 ∷ []) 1) ≡ 0)
+    × (openRefusal 10416 (opening 2014 1 1 0 1 1000000 (cable 0 0 0 9) [] 7) ≡ 0)
+    × (openRefusal 10416 (opening 2999 12 2 2 3 0 (cable 2000 250000 0 3) [] 0) ≡ 0)
 unfolding judging
 opening-numbers = (refl, refl, refl, refl, refl, refl, refl, refl, refl, refl, refl, refl, refl, refl, refl, refl, refl, refl, refl, refl)
 
@@ -89,7 +102,8 @@ number r c = ownRefusal r [] c
 
 -- the other form, no such meter, no such source
 reading-20 :
-    (number (point 2 2) (billingHours (hours 672)) ≡ 20) × (number (point 1 2) (billingVolume 5) ≡ 20) × (number (point 1 0) (controlHours (hours 672)) ≡ 20)
+    (number (point 2 2) (billingHours (hours 672)) ≡ 20) × (number (point 1 2) (billingVolume 5) ≡ 20)
+    × (number (point 1 0) (controlHours (hours 672)) ≡ 20)
     × (number (point 1 2) (controlHours (hours 672)) ≡ 20) × (number (point 1 0) (controlVolume 5) ≡ 20) × (number (point 1 1) (controlVolume 5) ≡ 20)
     × (number (point 1 0) (neighbour 0 5) ≡ 20) × (number (point 1 0) (neighbour 3 5) ≡ 20) × (number (point 1 0) (neighbour 2 5) ≡ 0)
 unfolding judging
@@ -103,8 +117,10 @@ denied n r = withService r (withDenials (r .service) n)
 
 -- out of service or with two denials a billing reading is refused, a control reading and a neighbour's are not
 reading-21 :
-    (number (out (point 2 2)) (billingVolume 5) ≡ 21) × (number (denied 2 (point 2 2)) (billingVolume 5) ≡ 21) × (number (denied 1 (point 2 2)) (billingVolume 5) ≡ 0)
-    × (number (out (point 1 2)) (billingHours []) ≡ 21) × (number (out (point 2 2)) (controlVolume 5) ≡ 0) × (number (denied 2 (point 2 1)) (neighbour 1 5) ≡ 0)
+    (number (out (point 2 2)) (billingVolume 5) ≡ 21) × (number (denied 2 (point 2 2)) (billingVolume 5) ≡ 21)
+    × (number (denied 1 (point 2 2)) (billingVolume 5) ≡ 0)
+    × (number (out (point 1 2)) (billingHours []) ≡ 21) × (number (out (point 2 2)) (controlVolume 5) ≡ 0)
+    × (number (denied 2 (point 2 1)) (neighbour 1 5) ≡ 0)
 unfolding judging
 reading-21 = (refl, refl, refl, refl, refl, refl)
 
@@ -120,17 +136,22 @@ reading-22 = (refl, refl, refl, refl, refl)
 
 -- T hours, each at most 1,000,000; a volume at most T × 1,000,000
 reading-23-24 :
-    (number (point 1 1) (billingHours (hours 671)) ≡ 23) × (number (point 1 1) (billingHours (1000001 ∷ hours 672)) ≡ 23) × (number (point 1 1) (controlHours (hours 673)) ≡ 23)
+    (number (point 1 1) (billingHours (hours 671)) ≡ 23) × (number (point 1 1) (billingHours (1000001 ∷ hours 672)) ≡ 23)
+    × (number (point 1 1) (controlHours (hours 673)) ≡ 23)
     × (number (point 1 1) (billingHours (1000001 ∷ hours 671)) ≡ 24) × (number (point 1 1) (billingHours (1000000 ∷ hours 671)) ≡ 0)
-    × (number (point 1 1) (controlHours (1000001 ∷ hours 671)) ≡ 24) × (number (point 2 2) (billingVolume 672000001) ≡ 24) × (number (point 2 2) (billingVolume 672000000) ≡ 0)
-    × (number (point 2 2) (controlVolume 672000001) ≡ 24) × (number (point 2 2) (neighbour 1 672000001) ≡ 24) × (number (point 2 2) (neighbour 2 672000000) ≡ 0)
+    × (number (point 1 1) (controlHours (1000001 ∷ hours 671)) ≡ 24) × (number (point 2 2) (billingVolume 672000001) ≡ 24)
+    × (number (point 2 2) (billingVolume 672000000) ≡ 0)
+    × (number (point 2 2) (controlVolume 672000001) ≡ 24) × (number (point 2 2) (neighbour 1 672000001) ≡ 24)
+    × (number (point 2 2) (neighbour 2 672000000) ≡ 0)
 unfolding judging
 reading-23-24 = (refl, refl, refl, refl, refl, refl, refl, refl, refl, refl, refl)
 
 -- NETWORK FIRM
 network :
-    (number (out (point 1 2)) (failure 9) ≡ 30) × (number (point 1 2) (failure 0) ≡ 31) × (number (point 1 2) (failure 5) ≡ 31) × (number (point 1 2) (failure 4) ≡ 0)
-    × (number (point 1 2) admission ≡ 32) × (number (out (point 1 2)) admission ≡ 0) × (number (denied 2 (point 1 2)) denial ≡ 33) × (number (denied 1 (point 1 2)) denial ≡ 0)
+    (number (out (point 1 2)) (failure 9) ≡ 30) × (number (point 1 2) (failure 0) ≡ 31) × (number (point 1 2) (failure 5) ≡ 31)
+    × (number (point 1 2) (failure 4) ≡ 0)
+    × (number (point 1 2) admission ≡ 32) × (number (out (point 1 2)) admission ≡ 0) × (number (denied 2 (point 1 2)) denial ≡ 33)
+    × (number (denied 1 (point 1 2)) denial ≡ 0)
     × (number (point 1 2) permission ≡ 34) × (number (denied 1 (point 1 2)) permission ≡ 0)
 unfolding judging
 network = (refl, refl, refl, refl, refl, refl, refl, refl, refl, refl)
@@ -168,7 +189,8 @@ read = withReadings (point 2 2) (withBilling (point 2 2 .readings) (givenAs 9))
 denials :
     (accept (state read []) denial .point ≡ withService read (withDenials freshService 1))
     × (accept (state (denied 1 read) []) denial .point ≡ withService (point 2 2) (withDenials freshService 2))
-    × (accept (state (served (point 2 2) (record { run = 5; serving = 0; denials = 2; fault = 0 })) []) permission .point .service ≡ record { run = 5; serving = 0; denials = 0; fault = 0 })
+    × (accept (state (served (point 2 2) (record { run = 5; serving = 0; denials = 2; fault = 0 })) []) permission .point .service
+    ≡ record { run = 5; serving = 0; denials = 0; fault = 0 })
 unfolding judging
 denials = (refl, refl, refl)
 
@@ -180,7 +202,8 @@ abbrev after : Record → Call → ℕ → ℕ
 after r c k = at (accept (state r empty) c .store) k
 
 rows :
-    (after (point 1 1) (billingHours (7 ∷ [])) 8928 ≡ 7) × (after (point 1 1) (billingHours (7 ∷ [])) 8929 ≡ 0) × (after (point 1 1) (billingHours (7 ∷ [])) 9672 ≡ 0)
+    (after (point 1 1) (billingHours (7 ∷ [])) 8928 ≡ 7) × (after (point 1 1) (billingHours (7 ∷ [])) 8929 ≡ 0)
+    × (after (point 1 1) (billingHours (7 ∷ [])) 9672 ≡ 0)
     × (after (point 1 1) (controlHours (7 ∷ [])) 9672 ≡ 7) × (after (point 1 1) (controlHours (7 ∷ [])) 8928 ≡ 0)
     × (accept (state (point 1 1) []) (billingHours (7 ∷ [])) .point ≡ withReadings (point 1 1) (withBilling (point 1 1 .readings) (givenAs 0)))
     × (accept (state (point 1 1) []) (controlHours (7 ∷ [])) .point ≡ withReadings (point 1 1) (withControl (point 1 1 .readings) (givenAs 0)))
@@ -202,7 +225,8 @@ discards :
 unfolding judging padded putRow
 discards = (refl, refl, refl, refl)
 
--- THE PAST: no row of January 2014 holds 2013; a row of two years ago is no past but as the latest; last year's row goes before the latest, with last year's hours
+-- THE PAST: no row of January 2014 holds 2013; a row of two years ago is no past but as the latest; last year's row goes before the latest,
+-- with last year's hours
 abbrev filled : Date → List ℕ → ℕ → State
 filled d years latest = state (withPast (withDate (point 1 2) d) (record { years = years; latest = latest })) (replicate 744 1 ++ replicate 744 2)
 
@@ -214,10 +238,12 @@ pasts :
 unfolding judging
 pasts = (refl, refl, refl, refl, refl)
 
--- A CLOSING of December 2024 with a volume of 7, all in its first hour: on ground 1 the month becomes the past and the run is 0; on ground 7 neither, and the run grows. The total grows, the readings and row 12 clear, January 2025 opens
+-- A CLOSING of December 2024 with a volume of 7, all in its first hour: on ground 1 the month becomes the past and the run is 0; on ground
+-- 7 neither, and the run grows. The total grows, the readings and row 12 clear, January 2025 opens
 abbrev december : ℕ → List ℕ → ℕ → Record
 december run years latest =
-    withPast (withService (withDate (point 1 2) (on 2024 12)) (record { run = run; serving = 1; denials = 1; fault = 0 })) (record { years = years; latest = latest })
+    withPast (withService (withDate (point 1 2) (on 2024 12)) (record { run = run; serving = 1; denials = 1; fault = 0 }))
+    (record { years = years; latest = latest })
 
 abbrev ended : ℕ → State
 ended g =

@@ -4,7 +4,8 @@ use mathlib.Core.Logic.{_⊎_, inl, inr, ⊎-elim}
 use mathlib.Core.List.{List, [], _∷_, _++_, append-assoc, append-nil}
 use mathlib.Core.Bool.{Bool, true, false, cond, _&&_, _||_, false≢true}
 use Prim.Native.Nat.{ℕ, zero, suc, _+_, _-_, _*_, _≤_, _<_}
-use native.Mathlib.Nat.{not-suc-le-zero, le-of-suc-le-suc, eq-or-lt-of-le, le-refl, le-step, le-antisymm, sub-zero, zero-sub, suc-sub-suc, add-zero, add-suc, mul-zero, mul-suc, mul-add}
+use native.Mathlib.Nat.{not-suc-le-zero, le-of-suc-le-suc, eq-or-lt-of-le, le-refl, le-step, le-antisymm, sub-zero, zero-sub, suc-sub-suc}
+use native.Mathlib.Nat.{add-zero, add-suc, mul-zero, mul-suc, mul-add}
 use native.Mathlib.Numerals.{add-one}
 use native.Mathlib.Omega.{arith}
 use native.Mathlib.Decide.{le-ind, decLt}
@@ -150,7 +151,8 @@ sum-parts f m zero = rw mul-zero
 sum-parts f m (suc k) = rw (mul-suc, sum-split f (m * k) m, sum-parts f m k)
 
 -- the sum over chosen indexes of numbers of at most k each
-pub sum-weighted : (chosen : ℕ → Bool) (f : ℕ → ℕ) (k n : ℕ) → ((h : ℕ) → f h ≤ k) → sumTo (λ h. cond (chosen h) (f h) 0) n ≤ k * countTo chosen n
+pub sum-weighted : (chosen : ℕ → Bool) (f : ℕ → ℕ) (k n : ℕ) → ((h : ℕ) → f h ≤ k)
+    → sumTo (λ h. cond (chosen h) (f h) 0) n ≤ k * countTo chosen n
 sum-weighted chosen f k zero e = omega arith
 sum-weighted chosen f k (suc n) e =
     let s = sum-weighted chosen f k n e in

@@ -40,7 +40,8 @@ clauses = (refl, refl, refl, refl, refl, refl, refl, refl)
 
 -- B even at 0; K only without a billing reading; nothing of an interval meter
 volumes :
-    (readingOf (whole 7) (whole 5) ≡ 7) × (readingOf (whole 0) (whole 5) ≡ 0) × (readingOf (hourly (9 ∷ [])) (whole 5) ≡ 0) × (readingOf missing (whole 5) ≡ 5)
+    (readingOf (whole 7) (whole 5) ≡ 7) × (readingOf (whole 0) (whole 5) ≡ 0) × (readingOf (hourly (9 ∷ [])) (whole 5) ≡ 0)
+    × (readingOf missing (whole 5) ≡ 5)
     × (readingOf missing (hourly (9 ∷ [])) ≡ 0) × (readingOf missing missing ≡ 0)
 unfolding readingOf
 volumes = (refl, refl, refl, refl, refl, refl)
@@ -57,7 +58,8 @@ unfolding pastMonth dateOf
 pasts = (refl, refl, refl, refl, refl)
 
 unfoldable pub working : Unit {0}
-unfolding reasonsOf clauseOf readingOf pastMonth comparedIn comparedBilling comparedControl comparedPast inputs measuredIn statedIn pastIn countedOf neighbourOf powerOf
+unfolding reasonsOf clauseOf readingOf pastMonth comparedIn comparedBilling comparedControl comparedPast inputs measuredIn statedIn pastIn
+    countedOf neighbourOf powerOf
     openHours monthHours monthDays isMonth leapYear dateOf formula halfUp peakCount capacitySum portion taken spread sharesOver stretched
 working = tt
 

@@ -1,5 +1,5 @@
--- The rules on values: R, N, the test of ground 6, and the grounds with their volumes. By computation; assumes nothing. A whole month on
--- ground 6 is in the crate `whole_months`.
+-- The rules on values: R, N, the test of ground 6, the grounds with their volumes, and the figures. By computation; assumes nothing. A whole
+-- month on ground 6, and the figures of one, are in the crate `whole_months`.
 use Prim.Native.Nat.{ℕ}
 use mathlib.Core.Path.{_≡_, refl}
 use mathlib.Core.Bool.{true, false}
@@ -15,23 +15,29 @@ use Rattle.marks.specs.Peak.{peakPart}
 use Rattle.contract.specs.declared.Contract.{Contract}
 use Rattle.contract.specs.Contract.{noCable, powerOf}
 use Rattle.rules.specs.declared.Figures.{Figures}
-use Rattle.rules.specs.Rules.{Measured, missing, hourly, whole, unstated, stated, PastHours, none, some, Inputs, countedOf, neighbourOf, asRead, byWeights, byPeaks, evenly, byContract, onPast, groundSix, groundSixIn, onControlPast, onControl, onBilling, rules, figures}
+use Rattle.rules.specs.Rules.{Measured, missing, hourly, whole, unstated, stated, PastHours, none, some, Inputs, countedOf, neighbourOf}
+use Rattle.rules.specs.Rules.{asRead, byWeights, byPeaks, evenly, byContract, onPast, groundSix, groundSixIn, onControlPast}
+use Rattle.rules.specs.Rules.{onControl, onBilling, rules, figures}
 
 -- R: the run plus 1, and 3 if that is less while denials are 2
 counts :
-    (countedOf 0 0 ≡ 1) × (countedOf 4 0 ≡ 5) × (countedOf 0 1 ≡ 1) × (countedOf 0 2 ≡ 3) × (countedOf 1 2 ≡ 3) × (countedOf 2 2 ≡ 3) × (countedOf 5 2 ≡ 6)
+    (countedOf 0 0 ≡ 1) × (countedOf 4 0 ≡ 5) × (countedOf 0 1 ≡ 1) × (countedOf 0 2 ≡ 3) × (countedOf 1 2 ≡ 3)
+    × (countedOf 2 2 ≡ 3) × (countedOf 5 2 ≡ 6)
 unfolding countedOf
 counts = (refl, refl, refl, refl, refl, refl, refl)
 
 -- N: the first if given, even at 0, else the second, else 0
 neighbours :
-    (neighbourOf (stated 7) (stated 4) ≡ 7) × (neighbourOf (stated 0) (stated 4) ≡ 0) × (neighbourOf unstated (stated 4) ≡ 4) × (neighbourOf (stated 7) unstated ≡ 7)
+    (neighbourOf (stated 7) (stated 4) ≡ 7) × (neighbourOf (stated 0) (stated 4) ≡ 0) × (neighbourOf unstated (stated 4) ≡ 4)
+    × (neighbourOf (stated 7) unstated ≡ 7)
     × (neighbourOf unstated unstated ≡ 0)
 unfolding neighbourOf
 neighbours = (refl, refl, refl, refl, refl)
 
 -- ground 6 is not for marks without peak hours; 7 / 2 is below 4 / 1, though both are 4 as rounded capacities
-six : (groundSix 6 1 2 3 ≡ false) × (groundSix 6 1 2 4 ≡ true) × (groundSix 0 1 0 4 ≡ false) × (groundSix 0 1 1 0 ≡ false) × (groundSix 7 1 2 4 ≡ true)
+six :
+    (groundSix 6 1 2 3 ≡ false) × (groundSix 6 1 2 4 ≡ true) × (groundSix 0 1 0 4 ≡ false) × (groundSix 0 1 1 0 ≡ false)
+    × (groundSix 7 1 2 4 ≡ true)
 unfolding capacityOf halfUp
 six = (refl, refl, refl, refl, refl)
 
@@ -62,7 +68,8 @@ abbrev pub Gives : Inputs → ℕ → ℕ → Type 0
 Gives i g v = (rules i .ground ≡ g) × (rules i .volume ≡ v)
 
 unfoldable pub working : Unit {0}
-unfolding rules onBilling onControl onControlPast onPast byContract evenly byPeaks byWeights asRead groundSixIn powerOf openHours monthHours monthDays isMonth leapYear formula halfUp
+unfolding rules onBilling onControl onControlPast onPast byContract evenly byPeaks byWeights asRead groundSixIn powerOf openHours monthHours
+    monthDays isMonth leapYear formula halfUp
     peakPart peakCount workingDays capacitySum capacityOf portion taken spread sharesOver stretched figures
 working = tt
 

@@ -19,7 +19,8 @@ getD-any (x ∷ xs) zero a b h = refl
 getD-any (x ∷ xs) (suc i) a b h = getD-any xs i a b (le-of-suc-le-suc h)
 
 -- a byte of the kind makes the run one longer
-pub span-on : (class : ℕ) (line : List ℕ) (i : ℕ) → i < length line → eqb (classOf (getD line i 0)) class ≡ true → spanFrom class line (i + 1) ≡ spanFrom class line i
+pub span-on : (class : ℕ) (line : List ℕ) (i : ℕ) → i < length line → eqb (classOf (getD line i 0)) class ≡ true
+    → spanFrom class line (i + 1) ≡ spanFrom class line i
 unfolding spanFrom run
 span-on class line i l e = rw (add-one, drop-cons line i 0 l, e) (omega arith)
 
@@ -34,7 +35,8 @@ unfolding spanFrom run
 span-end class line i l = rw (drop-past line i l) (omega arith)
 
 -- the value up to one byte more
-pub value-on : (base low : ℕ) (line : List ℕ) (from i : ℕ) → from ≤ i → valueOf base low line from (i + 1 - from) ≡ grownBy base low (valueOf base low line from (i - from)) (byteAt line i)
+pub value-on : (base low : ℕ) (line : List ℕ) (from i : ℕ) → from ≤ i
+    → valueOf base low line from (i + 1 - from) ≡ grownBy base low (valueOf base low line from (i - from)) (byteAt line i)
 unfolding valueOf
 value-on base low line from i l =
     let e : i + 1 - from ≡ suc (i - from) = omega arith in

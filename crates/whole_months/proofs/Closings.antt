@@ -15,7 +15,8 @@ plain = zeros 672
 -- the lowest over the whole month, so 42 on the last day goes before 43 on the first
 settlement :
     (closed (zeros 744) 744 ≡ 40) × (closed (set (set plain 0 1) 671 4) 744 ≡ 41) × (closed (1 ∷ (zeros 647 ++ (replicate 17 1 ++ zeros 7))) 744 ≡ 42)
-    × (closed (set plain 0 1) 743 ≡ 43) × (closed (set (set plain 0 2) 23 2) 744 ≡ 43) × (closed (set (set plain 0 3) 24 3) 744 ≡ 0) × (closed plain 743 ≡ 44)
+    × (closed (set plain 0 1) 743 ≡ 43) × (closed (set (set plain 0 2) 23 2) 744 ≡ 43)
+    × (closed (set (set plain 0 3) 24 3) 744 ≡ 0) × (closed plain 743 ≡ 44)
     × (closed plain 745 ≡ 44)
 unfolding judging
 settlement = (refl, refl, refl, refl, refl, refl, refl, refl)

@@ -5,7 +5,20 @@ use Rattle.tokens.proofs.number_token.Tie as tie
 
 returns : tie.Need-returns
 unfolding numberToken
-returns c = rw (c .pick-wide .ensures, c .before .behind .ensures, c .before .before .pick2 .ensures, c .before .before .before .pick .ensures, c .before .before .before .before .value .ensures, c .before .before .before .before .before .size-above .ensures, c .before .before .before .before .before .before .byte-at .ensures, c .before .before .before .before .before .before .before .span .ensures)
+returns c =
+    let kinds = c .before .before in
+    let digits = kinds .before .before in
+    let star = digits .before .before in
+    rw (
+      c .pick-wide .ensures,
+      c .before .behind .ensures,
+      kinds .pick2 .ensures,
+      kinds .before .pick .ensures,
+      digits .value .ensures,
+      digits .before .size-above .ensures,
+      star .byte-at .ensures,
+      star .before .span .ensures,
+    )
 
 pub number-token-spec : {M : Type 1} → statement M
 number-token-spec =
