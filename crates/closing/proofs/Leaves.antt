@@ -15,22 +15,22 @@ use Rattle.units.specs.declared.Kwh.{Kwh}
 use Rattle.marks.specs.Marks.{surveyWith, surveyOf, capacitySum, capacityIn}
 use Rattle.marks.proofs.Laws.{capacity-uncut}
 use Rattle.record.specs.declared.Record.{Record}
-use Rattle.rows.specs.Store.{asRow, withHours, writtenIn, storeFits}
-use Rattle.rows.proofs.Laws.{length-row, length-put, written-in}
+use Rattle.store.specs.Store.{asRow, withHours, writtenIn, storeFits}
+use Rattle.store.proofs.Laws.{length-row, length-put, written-in}
 use Rattle.rules.specs.declared.Figures.{Figures}
 use Rattle.rules.specs.Calls.{Call, closing}
 use Rattle.rules.specs.Rules.{Outcome, daysIn, rules, becomesPast, figures}
 use Rattle.rules.specs.Right.{Right}
-use Rattle.model.specs.Refusals.{refuse, anyone, ownRefusal}
+use Rattle.model.specs.Refusals.{refuse, refuseAnyone, ownRefusal}
 use Rattle.model.specs.Model.{State, state, inputs, pointAfter, storeAfter, closedWith, accept, refusal, accepted, leaves, figuresOf, hoursOut, answer, bufferAfter, Does}
-use Rattle.model.proofs.Closes.{slot-row}
+use Rattle.model.proofs.Closes.{row-few}
 use Rattle.grounds.specs.declared.Found.{Found}
-use Rattle.grounds.specs.Found.{Gives}
-use Rattle.choice.proofs.Laws.{capacity-row, capacity-within}
+use Rattle.grounds.specs.Found.{OutcomeFound}
+use Rattle.first_ground.proofs.Laws.{capacity-row, capacity-within}
 
 -- 40 to 45, and before them 1 to 3; the words are judged where the store has its length
 pub number-is : (r : Record) (store marks buffer : List ℕ)
-    → anyone (length store) r
+    → refuseAnyone (length store) r
     (refuse (not (eqb (length marks) (openHours (r .date)))) 40
     (refuse (surveyOf marks .high) 41
     (refuse (surveyOf marks .crowded) 42
@@ -70,7 +70,7 @@ kept-length false row hours store words few long = words
 pub store-is : (new : Bool) (m : Date) (hours store : List ℕ) {a b d : List ℕ} → length store ≡ 10416 → isMonth m ≡ true → length hours ≡ 744
     → a ≡ cond new (withHours (m .month - 1) hours store) store → b ≡ writtenIn 12 [] a → d ≡ writtenIn 13 [] b → d ≡ storeAfter new hours m store
 store-is new m hours store {a} {b} words month long e f g =
-    let la : length a ≡ 10416 = rw e (kept-length new (m .month - 1) hours store words (slot-row m month) long) in
+    let la : length a ≡ 10416 = rw e (kept-length new (m .month - 1) hours store words (row-few m month) long) in
     let fb = f ∙ written-in 12 [] a (lit≤ tt) (lit≤ tt) la in
     let lb : length b ≡ 10416 = rw fb (length-put 12 (asRow []) a la (lit≤ tt) (length-row [] (lit≤ tt))) in
     g ∙ written-in 13 [] b (lit≤ tt) (lit≤ tt) lb ∙ rw (fb, e)
@@ -87,7 +87,7 @@ unfolding accepted
 is-accepted s c e z = eq-eqb (refusal s c) 0 (sym e ∙ z)
 
 -- the figures that the code works out from the buffer
-figures-are : (u : Outcome) (marks : List ℕ) (t : ℕ) {f : Found} {hours : List ℕ} {c : Kwh} {d : ℕ} {g : Figures} → Right t u → t ≤ 744 → Gives u f hours
+figures-are : (u : Outcome) (marks : List ℕ) (t : ℕ) {f : Found} {hours : List ℕ} {c : Kwh} {d : ℕ} {g : Figures} → Right t u → t ≤ 744 → OutcomeFound u f hours
     → c .0 ≡ capacitySum marks hours → d ≡ daysIn marks
     → g ≡ record { ground = f .ground; volume = f .volume; capacity = record { 0 = capacityIn (c .0) d }; sum = c; days = d } → g ≡ figures u marks
 unfolding figures
@@ -99,7 +99,7 @@ figures-are u marks t {hours = hours} {c = c} right few gives total days e =
     e ∙ rw (same, days, gives .ground, gives .volume, capacity-uncut (capacitySum marks (u .hours)) (daysIn marks) small)
 
 pub closed-does : (s : State) (marks buffer : List ℕ) {number t : ℕ} → number ≡ refusal s (closing marks buffer) → number ≡ 0 → Right t (rules (inputs s marks)) → t ≤ 744
-    → {f : Found} {hours store : List ℕ} {c : Kwh} {d : ℕ} {g : Figures} {new : Bool} {r : Record} → Gives (rules (inputs s marks)) f hours
+    → {f : Found} {hours store : List ℕ} {c : Kwh} {d : ℕ} {g : Figures} {new : Bool} {r : Record} → OutcomeFound (rules (inputs s marks)) f hours
     → c .0 ≡ capacitySum marks hours → d ≡ daysIn marks
     → g ≡ record { ground = f .ground; volume = f .volume; capacity = record { 0 = capacityIn (c .0) d }; sum = c; days = d }
     → new ≡ (eqb (f .ground) 1 || eqb (f .ground) 2) → r ≡ pointAfter new (f .volume .0) (s .point)

@@ -4,7 +4,7 @@ ghost use mathlib.Core.Bool.{true, cond};
 ghost use lib.ListN.{length};
 ghost use Prim.Native.Nat.{_≤_};
 ghost use Rattle.calendar.specs.Calendar.{isMonth};
-ghost use Rattle.rows.specs.Store.{withHours};
+ghost use Rattle.store.specs.Store.{withHours};
 ghost use Rattle.model.specs.Model.{pastAfter, pointAfter, storeAfter};
 use calendar::Date;
 use calendar::month_number;
@@ -14,8 +14,8 @@ use numbers::pick_wide;
 use record::Past;
 use record::Record;
 use record::changes::no_readings;
-use rows::clear_row;
-use rows::write_row;
+use store::clear_row;
+use store::write_row;
 use units::Kwh;
 
 // Where the month becomes the past: its year in its row, and the latest past month.

@@ -9,7 +9,7 @@ mod after;
 use after::point_after;
 use after::store_after;
 use calendar::open_hours;
-use choice::first_ground;
+use first_ground::first_ground;
 use grounds::Found;
 use marks::Survey;
 use marks::capacity;
@@ -20,8 +20,8 @@ use model::answer_with;
 use model::refuse_anyone;
 use model::refuse_if;
 use record::Record;
-use rows::store_fits;
 use rules::Figures;
+use store::store_fits;
 use units::Kwh;
 
 // The number of a closing, 0 where it is accepted. The highest is asked first, so that each lower one goes before it.

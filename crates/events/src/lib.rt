@@ -3,10 +3,10 @@ ghost use mathlib.Core.Path.{_≡_};
 ghost use mathlib.Core.List.{[]};
 ghost use Prim.Native.Nat.{_≤_};
 ghost use Rattle.record.specs.Record.{notGiven, withReadings, withBilling, withDenials};
-ghost use Rattle.rows.specs.Store.{writtenIn};
+ghost use Rattle.store.specs.Store.{writtenIn};
 ghost use Rattle.rules.specs.Calls.Call.{failure, admission, denial, permission};
-ghost use Rattle.model.specs.Refusals.{anyone, failureNumber, admissionNumber, denialNumber, permissionNumber};
-ghost use Rattle.model.specs.Model.{state, afterFailure, quiet, Does};
+ghost use Rattle.model.specs.Refusals.{refuseAnyone, failureNumber, admissionNumber, denialNumber, permissionNumber};
+ghost use Rattle.model.specs.Model.{state, afterFailure, withoutFigures, Does};
 use calendar::Date;
 use calendar::month_number;
 use model::Answer;
@@ -19,11 +19,11 @@ use record::Record;
 use record::Service;
 use record::changes::not_given;
 use record::changes::with_billing;
-use rows::clear_row;
+use store::clear_row;
 
 // This month's billing reading is no longer given: its volume and row 12 become 0.
 fn discard(r: Record, store: &mut [u32]) -> Answer
-    ensures { λ a. ⌜ (a ≡ quiet 0 (withReadings r (withBilling (r .readings) notGiven))) × (now (store .exit) ≡ writtenIn 12 [] (now (store .entry))) ⌝ }
+    ensures { λ a. ⌜ (a ≡ withoutFigures 0 (withReadings r (withBilling (r .readings) notGiven))) × (now (store .exit) ≡ writtenIn 12 [] (now (store .entry))) ⌝ }
 {
     clear_row(store, 12);
     answer_with(0, with_billing(r, not_given()))
@@ -49,7 +49,7 @@ fn after_failure(s: Service, d: Date, reason: u32) -> Service
 }
 
 fn failure_refusal(words: usize, r: Record, reason: u32) -> u32
-    ensures { λ n. ⌜ n ≡ anyone words r (failureNumber r reason) ⌝ }
+    ensures { λ n. ⌜ n ≡ refuseAnyone words r (failureNumber r reason) ⌝ }
 {
     let n = refuse_if(!((1 <= reason) & (reason <= 4)), 31, 0);
     let n = refuse_if(!(r.service.serving == 1), 30, n);
@@ -71,7 +71,7 @@ pub fn fail(r: Record, store: &mut [u32], reason: u32) -> Answer
 }
 
 fn admission_refusal(words: usize, r: Record) -> u32
-    ensures { λ n. ⌜ n ≡ anyone words r (admissionNumber r) ⌝ }
+    ensures { λ n. ⌜ n ≡ refuseAnyone words r (admissionNumber r) ⌝ }
 {
     refuse_anyone(words, r, refuse_if(r.service.serving == 1, 32, 0))
 }
@@ -90,7 +90,7 @@ pub fn admit(r: Record, store: &[u32]) -> Answer
 }
 
 fn denial_refusal(words: usize, r: Record) -> u32
-    ensures { λ n. ⌜ n ≡ anyone words r (denialNumber r) ⌝ }
+    ensures { λ n. ⌜ n ≡ refuseAnyone words r (denialNumber r) ⌝ }
 {
     refuse_anyone(words, r, refuse_if(r.service.denials == 2, 33, 0))
 }
@@ -126,7 +126,7 @@ fn after_permission(s: Service) -> Service
 }
 
 fn permission_refusal(words: usize, r: Record) -> u32
-    ensures { λ n. ⌜ n ≡ anyone words r (permissionNumber r) ⌝ }
+    ensures { λ n. ⌜ n ≡ refuseAnyone words r (permissionNumber r) ⌝ }
 {
     refuse_anyone(words, r, refuse_if(r.service.denials == 0, 34, 0))
 }

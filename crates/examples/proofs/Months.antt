@@ -15,7 +15,7 @@ use Rattle.sharing.proofs.Rule.{past-short}
 use Rattle.power.specs.Power.{agreedFits, powerOn}
 use Rattle.marks.specs.Marks.{high, crowded, unmatched}
 use Rattle.contract.specs.Contract.{kept, powerOf}
-use Rattle.rows.specs.Store.{emptyStore}
+use Rattle.store.specs.Store.{emptyStore}
 use Rattle.rules.specs.Calls.{closing}
 use Rattle.rules.specs.Rules.{evenly, byWeights, byContract, onPast, onControl, onBilling, rules, becomesPast}
 use Rattle.model.specs.Refusals.{refuse, openRefusal, ownRefusal}

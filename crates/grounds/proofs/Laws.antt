@@ -17,29 +17,29 @@ use Rattle.sharing.proofs.Rule.{chosen-same}
 use Rattle.power.specs.declared.Cable.{Cable}
 use Rattle.power.specs.Power.{formulaIn, cableFits}
 use Rattle.power.proofs.Laws.{formula-most, formula-in}
-use Rattle.rows.specs.Store.{asRow, readFrom, storeFits}
-use Rattle.rows.proofs.Laws.{at-row, read-from, row-part-fits}
-use Rattle.grounds.specs.Found.{Hands, Lent}
+use Rattle.store.specs.Store.{asRow, readFrom, storeFits}
+use Rattle.store.proofs.Laws.{at-row, read-from, row-part-fits}
+use Rattle.grounds.specs.Found.{HoursFound, BuffersFit}
 
 -- the hours of a row, summed
 sum-row : (hs : List ℕ) (t : ℕ) → length hs ≡ t → sumTo (at (asRow hs)) t ≡ sum hs
 sum-row hs t e = sum-same t (at (asRow hs)) (at hs) (λ h l. at-row hs h) ∙ rw (sum-at hs, e)
 
 -- as read
-pub read-hands : (g : ℕ) (store : List ℕ) (r t : ℕ) (buffer : List ℕ) {after : List ℕ} {v : ℕ} → Lent store buffer t → r ≤ 13
+pub read-found : (g : ℕ) (store : List ℕ) (r t : ℕ) (buffer : List ℕ) {after : List ℕ} {v : ℕ} → BuffersFit store buffer t → r ≤ 13
     → after ≡ readFrom store r t buffer → v ≡ sumTo (at after) t
-    → Hands g (sum (rowPart store r t)) (rowPart store r t) (record { ground = g; volume = record { 0 = v } }) after
-read-hands g store r t buffer l row e f =
+    → HoursFound g (sum (rowPart store r t)) (rowPart store r t) (record { ground = g; volume = record { 0 = v } }) after
+read-found g store r t buffer l row e f =
     let long : length (rowPart store r t) ≡ t = length-take-le t (drop (744 * r) store) (rw (length-drop (744 * r) store) (omega (arith, l .words, l .few))) in
     let filled = e ∙ rw (l .room) at (read-from store r t buffer (l .words) row (l .few) (omega (arith, l .room, l .few))) in
     record { ground = refl; volume = f ∙ rw filled (sum-row (rowPart store r t) t long); hours = filled }
 
 -- as the past's
-pub past-hands : (g : ℕ) (store : List ℕ) (r past t : ℕ) (buffer : List ℕ) {cleared after : List ℕ} {v : ℕ} → Lent store buffer t
+pub past-found : (g : ℕ) (store : List ℕ) (r past t : ℕ) (buffer : List ℕ) {cleared after : List ℕ} {v : ℕ} → BuffersFit store buffer t
     → cleared ≡ zeros (length buffer) → Filled (pastAt (take (744 * r + past - 744 * r) (drop (744 * r) store))) cleared after t → v ≡ sumTo (at after) t
-    → Hands g (sum (stretched (rowPart store r past) t)) (stretched (rowPart store r past) t) (record { ground = g; volume = record { 0 = v } }) after
+    → HoursFound g (sum (stretched (rowPart store r past) t)) (stretched (rowPart store r past) t) (record { ground = g; volume = record { 0 = v } }) after
 unfolding stretched
-past-hands g store r past t buffer l e filled f =
+past-found g store r past t buffer l e filled f =
     let w = pastAt (rowPart store r past) in
     let made = filled-padded (length buffer) (rw (add-sub-cancel-left (744 * r) past) at filled) e in
     let hours = rw (l .room) at made in
@@ -83,14 +83,14 @@ weights-small store r past t chosen fits few =
     le-leb (sumTo (within chosen (pastAt part)) t) 2232000000 (omega (arith, most))
 
 -- by the past's weights
-pub shares-hands : (g v : ℕ) (store : List ℕ) (r past t : ℕ) (buffer : List ℕ) {after : List ℕ} {done : Bool}
-    → Lent store buffer t → r ≤ 13 → past ≤ 744 → storeFits store ≡ true → v ≤ 744000000
+pub shares-found : (g v : ℕ) (store : List ℕ) (r past t : ℕ) (buffer : List ℕ) {after : List ℕ} {done : Bool}
+    → BuffersFit store buffer t → r ≤ 13 → past ≤ 744 → storeFits store ≡ true → v ≤ 744000000
     → Shared (rowFits (length store) r past
     && (monthFits v (length (everyHour t)) (length buffer) && weightsFit (sumTo (within (chosenAt (everyHour t)) (pastAt (rowPart store r past))) (length (everyHour t)))))
     (sharesOver v (chosenAt (everyHour t)) (stretched (rowPart store r past) (length (everyHour t)))) buffer after done
-    → Hands g v (shares v (stretched (rowPart store r past) t)) (record { ground = g; volume = record { 0 = v } }) after
+    → HoursFound g v (shares v (stretched (rowPart store r past) t)) (record { ground = g; volume = record { 0 = v } }) after
 unfolding rowFits stretched
-shares-hands g v store r past t buffer l row short fits small s =
+shares-found g v store r past t buffer l row short fits small s =
     let there = rw (length-every t (l .few)) at s in
     let w = pastAt (rowPart store r past) in
     record {
@@ -105,19 +105,19 @@ shares-hands g v store r past t buffer l row short fits small s =
     }
 
 -- by the peak rule, or any sharing of a volume that fits a month
-pub month-hands : (g v t : ℕ) (buffer hs : List ℕ) {after : List ℕ} {done : Bool} → v ≤ 744000000 → 1 ≤ t → t ≤ 744 → length buffer ≡ 744
-    → Shared (monthFits v t (length buffer)) hs buffer after done → Hands g v hs (record { ground = g; volume = record { 0 = v } }) after
-month-hands g v t buffer hs small some few room s =
+pub month-found : (g v t : ℕ) (buffer hs : List ℕ) {after : List ℕ} {done : Bool} → v ≤ 744000000 → 1 ≤ t → t ≤ 744 → length buffer ≡ 744
+    → Shared (monthFits v t (length buffer)) hs buffer after done → HoursFound g v hs (record { ground = g; volume = record { 0 = v } }) after
+month-found g v t buffer hs small some few room s =
     record { ground = refl; volume = refl; hours = filled-by s (month-there v t (length buffer) small some few room) room }
 
 -- evenly
-pub even-hands : (g v t : ℕ) (buffer : List ℕ) {after : List ℕ} {done : Bool}
+pub even-found : (g v t : ℕ) (buffer : List ℕ) {after : List ℕ} {done : Bool}
     → v ≤ 744000000 → 1 ≤ t → t ≤ 744 → length buffer ≡ 744
     → Shared (monthFits v (length (everyHour t)) (length buffer)) (sharesOver v (chosenAt (everyHour t)) (ones (length (everyHour t)))) buffer after done
-    → Hands g v (shares v (ones t)) (record { ground = g; volume = record { 0 = v } }) after
-even-hands g v t buffer small some few room s =
+    → HoursFound g v (shares v (ones t)) (record { ground = g; volume = record { 0 = v } }) after
+even-found g v t buffer small some few room s =
     let there = rw (length-every t few) at s in
-    month-hands g v t buffer (shares v (ones t)) small some few room (rw (over-every v t (ones t) (length-tab t one) few) at there)
+    month-found g v t buffer (shares v (ones t)) small some few room (rw (over-every v t (ones t) (length-tab t one) few) at there)
 
 -- THE VOLUMES OF GROUNDS 8 AND 9
 -- a volume of at most 1,000,000 an hour fits a month

@@ -15,7 +15,7 @@ use Rattle.record.specs.declared.Record.{Record}
 use Rattle.validity.specs.Valid.{valid}
 use Rattle.validity.proofs.Laws.{valid-parts, past-parts}
 use Rattle.model.specs.Model.{pastIn, lastYear}
-use Rattle.grounds.specs.Found.{inRow, hoursFrom, PastOf}
+use Rattle.grounds.specs.Found.{inRow, hoursFrom, PastFound}
 
 -- the open month's limits
 pub month-limits : (r : Record) → valid r ≡ true → OpenLimits (r .date)
@@ -47,26 +47,26 @@ latest-date r v n =
     rw (m .0, le-leb l 36001 (omega (arith, leb-true l 36000 (m .1))))
 
 -- the same month last year
-pub past-year : (r : Record) → valid r ≡ true → at (r .past .years) (r .date .month - 1) ≡ r .date .year - 1 → PastOf r (inRow (lastYear (r .date)))
+pub found-year : (r : Record) → valid r ≡ true → at (r .past .years) (r .date .month - 1) ≡ r .date .year - 1 → PastFound r (inRow (lastYear (r .date)))
 unfolding pastIn hoursFrom
-past-year r v e = record {
+found-year r v e = record {
   same = λ store. rw (eq-eqb _ _ e);
   fits = record { row = omega (arith, month-limits r v); short = open-most (lastYear (r .date)) };
 }
 
 -- no past
-pub past-none : (r : Record) → at (r .past .years) (r .date .month - 1) ≢ r .date .year - 1 → r .past .latest ≡ 0
-    → PastOf r (record { found = false; row = 0; hours = 0 })
+pub found-none : (r : Record) → at (r .past .years) (r .date .month - 1) ≢ r .date .year - 1 → r .past .latest ≡ 0
+    → PastFound r (record { found = false; row = 0; hours = 0 })
 unfolding pastIn hoursFrom
-past-none r n z = record {
+found-none r n z = record {
   same = λ store. rw (ne-eqb (at (r .past .years) (r .date .month - 1)) (r .date .year - 1) n, z);
   fits = record { row = lit≤ tt; short = lit≤ tt };
 }
 
 -- the latest past month
-pub past-latest : (r : Record) → at (r .past .years) (r .date .month - 1) ≢ r .date .year - 1 → r .past .latest ≢ 0 → PastOf r (inRow (dateOf (r .past .latest)))
+pub found-latest : (r : Record) → at (r .past .years) (r .date .month - 1) ≢ r .date .year - 1 → r .past .latest ≢ 0 → PastFound r (inRow (dateOf (r .past .latest)))
 unfolding pastIn hoursFrom dateOf
-past-latest r n z = record {
+found-latest r n z = record {
   same = λ store. rw (ne-eqb (at (r .past .years) (r .date .month - 1)) (r .date .year - 1) n, ne-eqb (r .past .latest) 0 z);
   fits = record { row = omega arith; short = open-most (dateOf (r .past .latest)) };
 }

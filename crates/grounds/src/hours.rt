@@ -7,23 +7,23 @@ ghost use lib.ListN.{length};
 ghost use Rattle.numbers.specs.Lists.{sum, Filled};
 ghost use Rattle.sharing.specs.Shares.{ones, shares, pastAt, stretched, rowPart};
 ghost use Rattle.marks.specs.Peak.{peakRule};
-ghost use Rattle.rows.specs.Store.{storeFits};
-ghost use Rattle.grounds.specs.Found.{Hands, Lent};
+ghost use Rattle.store.specs.Store.{storeFits};
+ghost use Rattle.grounds.specs.Found.{HoursFound, BuffersFit};
 use super::Found;
 use marks::peak::peak_rule;
 use numbers::clear;
-use rows::read_row;
 use sharing::place::sum_first;
 use sharing::share_by_row;
 use sharing::share_evenly;
 use sharing::weights::past_at;
+use store::read_row;
 use units::Kw;
 use units::Kwh;
 
 // The hours of a row as read; the volume is their sum.
 pub(crate) fn as_read(ground: u32, store: &[u32], row: usize, t: usize, hours: &mut [u32]) -> Found
-    requires { ⌜ Lent (now store) (now hours) t × (row ≤ 13) ⌝ }
-    ensures { λ f. ⌜ Hands ground (sum (rowPart (now (store .entry)) row t)) (rowPart (now (store .entry)) row t) f (now (hours .exit)) ⌝ }
+    requires { ⌜ BuffersFit (now store) (now hours) t × (row ≤ 13) ⌝ }
+    ensures { λ f. ⌜ HoursFound ground (sum (rowPart (now (store .entry)) row t)) (rowPart (now (store .entry)) row t) f (now (hours .exit)) ⌝ }
 {
     read_row(store, row, t, hours);
     let volume = sum_first(hours, t);
@@ -55,9 +55,9 @@ pub(crate) fn as_past(
     t: usize,
     hours: &mut [u32],
 ) -> Found
-    requires { ⌜ Lent (now store) (now hours) t × (row ≤ 13) × (past ≤ 744) ⌝ }
+    requires { ⌜ BuffersFit (now store) (now hours) t × (row ≤ 13) × (past ≤ 744) ⌝ }
     ensures { λ f. ⌜
-        Hands ground (sum (stretched (rowPart (now (store .entry)) row past) t)) (stretched (rowPart (now (store .entry)) row past) t) f (now (hours .exit))
+        HoursFound ground (sum (stretched (rowPart (now (store .entry)) row past) t)) (stretched (rowPart (now (store .entry)) row past) t) f (now (hours .exit))
         ⌝ }
 {
     let from = 744 * row;
@@ -81,9 +81,9 @@ pub(crate) fn by_past(
     t: usize,
     hours: &mut [u32],
 ) -> Found
-    requires { ⌜ Lent (now store) (now hours) t × (row ≤ 13) × (past ≤ 744) ⌝ }
+    requires { ⌜ BuffersFit (now store) (now hours) t × (row ≤ 13) × (past ≤ 744) ⌝ }
     requires { ⌜ (storeFits (now store) ≡ true) × (volume .0 ≤ 744000000) ⌝ }
-    ensures { λ f. ⌜ Hands ground (volume .0) (shares (volume .0) (stretched (rowPart (now (store .entry)) row past) t)) f (now (hours .exit)) ⌝ }
+    ensures { λ f. ⌜ HoursFound ground (volume .0) (shares (volume .0) (stretched (rowPart (now (store .entry)) row past) t)) f (now (hours .exit)) ⌝ }
 {
     let every = [true; 744];
     share_by_row(volume, store, row, past, &every[0..t], hours);
@@ -102,7 +102,7 @@ pub(crate) fn by_peaks(
     hours: &mut [u32],
 ) -> Found
     requires { ⌜ (volume .0 ≤ 744000000) × (1 ≤ length (now marks)) × (length (now marks) ≤ 744) × (length (now hours) ≡ 744) ⌝ }
-    ensures { λ f. ⌜ Hands ground (volume .0) (peakRule (volume .0) (power .0) (now (marks .entry))) f (now (hours .exit)) ⌝ }
+    ensures { λ f. ⌜ HoursFound ground (volume .0) (peakRule (volume .0) (power .0) (now (marks .entry))) f (now (hours .exit)) ⌝ }
 {
     peak_rule(volume, power, marks, hours);
     Found {
@@ -114,7 +114,7 @@ pub(crate) fn by_peaks(
 // A volume evenly over a month of t hours.
 pub(crate) fn evenly(ground: u32, volume: Kwh, t: usize, hours: &mut [u32]) -> Found
     requires { ⌜ (volume .0 ≤ 744000000) × (1 ≤ t) × (t ≤ 744) × (length (now hours) ≡ 744) ⌝ }
-    ensures { λ f. ⌜ Hands ground (volume .0) (shares (volume .0) (ones t)) f (now (hours .exit)) ⌝ }
+    ensures { λ f. ⌜ HoursFound ground (volume .0) (shares (volume .0) (ones t)) f (now (hours .exit)) ⌝ }
 {
     let every = [true; 744];
     share_evenly(volume, &every[0..t], hours);

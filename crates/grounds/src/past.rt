@@ -3,7 +3,7 @@ ghost use mathlib.Core.Path.{_≡_};
 ghost use mathlib.Core.Bool.{true};
 ghost use Prim.Native.Nat.{_≤_};
 ghost use Rattle.validity.specs.Valid.{valid};
-ghost use Rattle.grounds.specs.Found.{inRow, PastOf};
+ghost use Rattle.grounds.specs.Found.{inRow, PastFound};
 use calendar::Date;
 use calendar::date_of;
 use calendar::open_hours;
@@ -33,7 +33,7 @@ fn in_row(d: Date) -> PastMonth
 // The same month last year, if its row holds that year; else the latest past month; else none.
 pub fn find_past(r: Record) -> PastMonth
     requires { ⌜ valid r ≡ true ⌝ }
-    ensures { λ p. ⌜ PastOf r p ⌝ }
+    ensures { λ p. ⌜ PastFound r p ⌝ }
 {
     let d = r.date;
     let p = r.past;

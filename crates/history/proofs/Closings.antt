@@ -19,13 +19,13 @@ use Rattle.rules.specs.Calls.{Opening, Call, billingHours, controlHours, billin
 use Rattle.rules.specs.Rules.{Outcome, rules, becomesPast}
 use Rattle.rules.specs.Right.{Right}
 use Rattle.rules.proofs.Laws.{rules-right}
-use Rattle.model.specs.Model.{State, slot, inputs, runAfter, closedWith, accept, accepted}
-use Rattle.model.proofs.Keeps.{own, open-month}
-use Rattle.model.proofs.Closes.{inputs-sane, slot-row}
+use Rattle.model.specs.Model.{State, rowOf, inputs, runAfter, closedWith, accept, accepted}
+use Rattle.model.proofs.Keeps.{call-passed, open-month}
+use Rattle.model.proofs.Closes.{inputs-fit, row-few}
 use Rattle.model.proofs.GoesOn.{call-sound}
 use Rattle.history.specs.Book.{Book, monthOf, denialsOf, runOf, volumes, inputsOf}
-use Rattle.history.proofs.Rows.{Holds, upd, holds-same, holds-put, set-tab}
-use Rattle.history.proofs.View.{servingOf, faultOf, latestOf, yearIn, contents, pointOf, seen, looking, Formed, Fine, Shows, as-seen}
+use Rattle.history.proofs.Rows.{Holds, replacedAt, holds-same, holds-put, set-tab}
+use Rattle.history.proofs.View.{servingOf, faultOf, latestOf, yearIn, contents, pointOf, seen, lookBacks, OfItsMeter, MonthsClosed, Shows, as-seen}
 use Rattle.history.proofs.Inputs.{hours-most, inputs-same}
 use Rattle.history.proofs.Steps.{entry, step-billing-hours, step-control-hours, step-billing-volume, step-control-volume, step-neighbour, step-failure, step-admission, step-denial, step-permission}
 
@@ -33,35 +33,35 @@ module _ (o : Opening) (es : Book) (store : List ℕ) (h : Shows o es (seen o es
   module _ (marks buffer : List ℕ) (t : accepted (seen o es store) (closing marks buffer) ≡ true) where
     month : isMonth (monthOf o es) ≡ true
     unfolding pointOf
-    month = open-month (pointOf o es) (h .sound .fits .record-fits) (own (seen o es store) (closing marks buffer) t .goes)
+    month = open-month (pointOf o es) (h .sound .fits .record-fits) (call-passed (seen o es store) (closing marks buffer) t .notOver)
 
     -- what the book works out is right
     pub work-right : Right (openHours (monthOf o es)) (rules (inputsOf o es marks))
     unfolding inputsOf
-    work-right = rw (inputs-same o es store h marks) at (rules-right (inputs (seen o es store) marks) (inputs-sane (seen o es store) marks buffer t))
+    work-right = rw (inputs-same o es store h marks) at (rules-right (inputs (seen o es store) marks) (inputs-fit (seen o es store) marks buffer t))
 
     -- the run, the rows' years and the total
     run-after : runAfter (becomesPast (rules (inputsOf o es marks))) (runOf o es) ≡ runOf o (entry o es (closing marks buffer) ∷ es)
-    unfolding looking
+    unfolding lookBacks
     run-after = by-cases (becomesPast (rules (inputsOf o es marks))) (λ y. rw y) (λ f. rw (f, add-one))
 
-    years-after : cond (becomesPast (rules (inputsOf o es marks))) (set (tab 12 (yearIn o es)) (slot (monthOf o es)) (monthOf o es .year)) (tab 12 (yearIn o es))
+    years-after : cond (becomesPast (rules (inputsOf o es marks))) (set (tab 12 (yearIn o es)) (rowOf (monthOf o es)) (monthOf o es .year)) (tab 12 (yearIn o es))
         ≡ tab 12 (yearIn o (entry o es (closing marks buffer) ∷ es))
-    unfolding looking
+    unfolding lookBacks
     years-after =
         let d : Date = monthOf o es in
         by-cases (becomesPast (rules (inputsOf o es marks)))
         (λ y. rw y
-        (set-tab (yearIn o es) 12 (slot d) (d .year) (omega (arith, slot-row d month))
-        ∙ tab-same 12 (upd (yearIn o es) (slot d) (d .year)) (λ r. cond (true && eqb r (slot d)) (d .year) (yearIn o es r)) (λ r l. refl)))
+        (set-tab (yearIn o es) 12 (rowOf d) (d .year) (omega (arith, row-few d month))
+        ∙ tab-same 12 (replacedAt (yearIn o es) (rowOf d) (d .year)) (λ r. cond (true && eqb r (rowOf d)) (d .year) (yearIn o es r)) (λ r l. refl)))
         (λ f. rw f)
 
     total-after : volumes es + rules (inputsOf o es marks) .volume ≡ volumes (entry o es (closing marks buffer) ∷ es)
-    unfolding looking
+    unfolding lookBacks
     total-after = add-comm (volumes es) (rules (inputsOf o es marks) .volume)
 
     point-after : closedWith (rules (inputsOf o es marks)) (seen o es store) .point ≡ pointOf o (entry o es (closing marks buffer) ∷ es)
-    unfolding closedWith pointOf looking
+    unfolding closedWith pointOf lookBacks
     point-after =
         λ i.
         record {
@@ -76,9 +76,9 @@ module _ (o : Opening) (es : Book) (store : List ℕ) (h : Shows o es (seen o es
 
     -- the rows: this month's hours on ground 1 or 2, and rows 12 and 13 clear
     contents-after : (r : ℕ)
-        → upd (upd (cond (becomesPast (rules (inputsOf o es marks))) (upd (contents o es) (slot (monthOf o es)) (rules (inputsOf o es marks) .hours)) (contents o es)) 12 []) 13 [] r
+        → replacedAt (replacedAt (cond (becomesPast (rules (inputsOf o es marks))) (replacedAt (contents o es) (rowOf (monthOf o es)) (rules (inputsOf o es marks) .hours)) (contents o es)) 12 []) 13 [] r
         ≡ contents o (entry o es (closing marks buffer) ∷ es) r
-    unfolding contents looking
+    unfolding contents lookBacks
     contents-after r =
         by-cases (eqb r 12)
         (λ t. rw (eqb-true r 12 t))
@@ -96,11 +96,11 @@ module _ (o : Opening) (es : Book) (store : List ℕ) (h : Shows o es (seen o es
         (holds-put 13 [] (lit≤ tt) (lit≤ tt)
         (holds-put 12 [] (lit≤ tt) (lit≤ tt)
         (by-cases (becomesPast u)
-        (λ y. rw y (holds-put (slot d) (u .hours) (omega (arith, slot-row d month)) (omega (arith, work-right .long, hours-most d)) (h .rows)))
+        (λ y. rw y (holds-put (rowOf d) (u .hours) (omega (arith, row-few d month)) (omega (arith, work-right .long, hours-most d)) (h .rows)))
         (λ n. rw n (h .rows)))))
 
     step-closing : Shows o (entry o es (closing marks buffer) ∷ es) (accept (seen o es store) (closing marks buffer))
-    unfolding accept looking Formed Fine
+    unfolding accept lookBacks OfItsMeter MonthsClosed
     step-closing =
         record {
           sound = call-sound (seen o es store) (closing marks buffer) (h .sound) t;
@@ -108,7 +108,7 @@ module _ (o : Opening) (es : Book) (store : List ℕ) (h : Shows o es (seen o es
           rows = rw (inputs-same o es store h marks) rows-after;
           billing = tt;
           control = tt;
-          fine = (record { month = λ e. month; long = λ e. work-right .long }, h .fine);
+          months = (record { month = λ e. month; long = λ e. work-right .long }, h .months);
         }
 
   -- EVERY CALL

@@ -10,12 +10,12 @@ use Rattle.sharing.specs.Shares.{portion, taken, spread, sharesOver, stretched}
 use Rattle.power.specs.Power.{sharedPower, powerOn}
 use Rattle.contract.specs.Contract.{noCable, kept, powerOf}
 use Rattle.rules.specs.Calls.{Opening, Call, billingHours, controlHours, billingVolume, controlVolume, neighbour, failure, admission, denial, permission, closing}
-use Rattle.rules.specs.Rules.{missing, hourly, whole, unstated, stated, none, some, countedOf, neighbourOf, asRead, byWeights, byPeaks, evenly, byContract, onPast, onControl, onBilling, rules, becomesPast}
-use Rattle.history.specs.Book.{Entry, Book, billing, control, neighbouring, failed, admitted, denied, permitted, closed, is, isFrom, isFaulty, monthOf, denialsOf, discards, billingOf, thisMonths, sourceOf, faultSince, isRepeat, becamePast, runOf, hoursAt, latestHours, orElse, pastOf, volumes, inputsOf, nothing, workOut, feed}
-use Rattle.history.proofs.View.{looking}
+use Rattle.rules.specs.Rules.{missing, hourly, whole, unstated, stated, noPastHours, pastHours, countedOf, neighbourOf, asRead, byWeights, byPeaks, evenly, byContract, onPast, onControl, onBilling, rules, becomesPast}
+use Rattle.history.specs.Book.{Entry, Book, billing, control, neighbouring, failed, admitted, denied, permitted, closed, ofKind, isFrom, isFaulty, monthOf, denialsOf, discards, billingOf, thisMonths, sourceOf, faultSince, isRepeat, becamePast, runOf, hoursAt, latestHours, orElsePast, pastOf, volumes, inputsOf, nothing, workOut, feed}
+use Rattle.history.proofs.View.{lookBacks}
 
 unfoldable pub reading : Unit {0}
-unfolding looking faultSince hoursAt latestHours orElse pastOf inputsOf feed countedOf neighbourOf becomesPast monthNumber nextMonth
+unfolding lookBacks faultSince hoursAt latestHours orElsePast pastOf inputsOf feed countedOf neighbourOf becomesPast monthNumber nextMonth
 reading = tt
 
 -- 1 kW agreed, an integral billing meter and no control meter, from January 2023
@@ -42,10 +42,10 @@ estimated (suc n) es = shut 8 (3 ∷ []) ∷ estimated n es
 
 -- KINDS: a billing reading of either form is one, and no control reading is
 kinds :
-    (is billing (called (billingHours [])) ≡ true) × (is billing (called (billingVolume 0)) ≡ true) × (is billing (called (controlVolume 0)) ≡ false)
-    × (is control (called (controlHours [])) ≡ true) × (is control (called (neighbour 2 0)) ≡ false) × (is neighbouring (called (neighbour 2 0)) ≡ true)
-    × (is failed (called (failure 1)) ≡ true) × (is failed (called denial) ≡ false) × (is admitted (called admission) ≡ true) × (is permitted (called permission) ≡ true) × (is denied (called permission) ≡ false)
-    × (is closed (shut 8 []) ≡ true) × (is closed (called denial) ≡ false)
+    (ofKind billing (called (billingHours [])) ≡ true) × (ofKind billing (called (billingVolume 0)) ≡ true) × (ofKind billing (called (controlVolume 0)) ≡ false)
+    × (ofKind control (called (controlHours [])) ≡ true) × (ofKind control (called (neighbour 2 0)) ≡ false) × (ofKind neighbouring (called (neighbour 2 0)) ≡ true)
+    × (ofKind failed (called (failure 1)) ≡ true) × (ofKind failed (called denial) ≡ false) × (ofKind admitted (called admission) ≡ true) × (ofKind permitted (called permission) ≡ true) × (ofKind denied (called permission) ≡ false)
+    × (ofKind closed (shut 8 []) ≡ true) × (ofKind closed (called denial) ≡ false)
 unfolding reading
 kinds = (refl, refl, refl, refl, refl, refl, refl, refl, refl, refl, refl, refl, refl)
 
@@ -99,9 +99,9 @@ second-denial = (refl, refl, refl, refl, refl, refl, refl)
 
 -- CONTROL AND NEIGHBOUR READINGS: this month's, which nothing discards
 others :
-    (thisMonths (is control) (called (failure 1) ∷ called denial ∷ called denial ∷ called (controlVolume 6) ∷ []) ≡ whole 6)
-    × (thisMonths (is control) (called (controlHours (2 ∷ [])) ∷ []) ≡ hourly (2 ∷ [])) × (thisMonths (is control) (called (billingVolume 5) ∷ []) ≡ missing)
-    × (thisMonths (is control) (shut 4 [] ∷ called (controlVolume 6) ∷ []) ≡ missing)
+    (thisMonths (ofKind control) (called (failure 1) ∷ called denial ∷ called denial ∷ called (controlVolume 6) ∷ []) ≡ whole 6)
+    × (thisMonths (ofKind control) (called (controlHours (2 ∷ [])) ∷ []) ≡ hourly (2 ∷ [])) × (thisMonths (ofKind control) (called (billingVolume 5) ∷ []) ≡ missing)
+    × (thisMonths (ofKind control) (shut 4 [] ∷ called (controlVolume 6) ∷ []) ≡ missing)
     × (sourceOf 1 (called (failure 1) ∷ called (neighbour 1 7) ∷ []) ≡ stated 7) × (sourceOf 2 (called (neighbour 1 7) ∷ []) ≡ unstated)
     × (sourceOf 1 (shut 8 [] ∷ called (neighbour 1 7) ∷ []) ≡ unstated)
 unfolding reading
@@ -155,17 +155,17 @@ counts = (refl, refl, refl)
 
 -- THE PAST: the same month last year goes before the latest, and an estimated month is neither
 pasts :
-    (pastOf o [] ≡ none) × (pastOf o (estimated 12 []) ≡ none) × (pastOf o (estimated 3 (shut 1 (5 ∷ []) ∷ [])) ≡ some (5 ∷ []))
-    × (pastOf o (shut 2 (6 ∷ []) ∷ estimated 10 (shut 1 (5 ∷ []) ∷ [])) ≡ some (5 ∷ [])) × (pastOf o (shut 2 (6 ∷ []) ∷ estimated 9 (shut 1 (5 ∷ []) ∷ [])) ≡ some (6 ∷ []))
-    × (pastOf o (shut 2 (6 ∷ []) ∷ estimated 11 (shut 1 (5 ∷ []) ∷ [])) ≡ some (6 ∷ []))
-    × (pastOf o (estimated 11 (shut 1 (5 ∷ []) ∷ estimated 11 (shut 2 (6 ∷ []) ∷ []))) ≡ some (5 ∷ []))
-    × (pastOf o (estimated 23 (shut 1 (5 ∷ []) ∷ [])) ≡ some (5 ∷ []))
+    (pastOf o [] ≡ noPastHours) × (pastOf o (estimated 12 []) ≡ noPastHours) × (pastOf o (estimated 3 (shut 1 (5 ∷ []) ∷ [])) ≡ pastHours (5 ∷ []))
+    × (pastOf o (shut 2 (6 ∷ []) ∷ estimated 10 (shut 1 (5 ∷ []) ∷ [])) ≡ pastHours (5 ∷ [])) × (pastOf o (shut 2 (6 ∷ []) ∷ estimated 9 (shut 1 (5 ∷ []) ∷ [])) ≡ pastHours (6 ∷ []))
+    × (pastOf o (shut 2 (6 ∷ []) ∷ estimated 11 (shut 1 (5 ∷ []) ∷ [])) ≡ pastHours (6 ∷ []))
+    × (pastOf o (estimated 11 (shut 1 (5 ∷ []) ∷ estimated 11 (shut 2 (6 ∷ []) ∷ []))) ≡ pastHours (5 ∷ []))
+    × (pastOf o (estimated 23 (shut 1 (5 ∷ []) ∷ [])) ≡ pastHours (5 ∷ []))
 unfolding reading
 pasts = (refl, refl, refl, refl, refl, refl, refl, refl)
 
 same-month :
-    (hoursAt o 24277 (estimated 3 (shut 1 (5 ∷ []) ∷ [])) ≡ some (5 ∷ [])) × (hoursAt o 24278 (estimated 3 (shut 1 (5 ∷ []) ∷ [])) ≡ none)
-    × (latestHours (estimated 3 (shut 2 (6 ∷ []) ∷ shut 1 (5 ∷ []) ∷ [])) ≡ some (6 ∷ [])) × (latestHours (estimated 3 []) ≡ none)
+    (hoursAt o 24277 (estimated 3 (shut 1 (5 ∷ []) ∷ [])) ≡ pastHours (5 ∷ [])) × (hoursAt o 24278 (estimated 3 (shut 1 (5 ∷ []) ∷ [])) ≡ noPastHours)
+    × (latestHours (estimated 3 (shut 2 (6 ∷ []) ∷ shut 1 (5 ∷ []) ∷ [])) ≡ pastHours (6 ∷ [])) × (latestHours (estimated 3 []) ≡ noPastHours)
 unfolding reading
 same-month = (refl, refl, refl, refl)
 

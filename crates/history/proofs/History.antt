@@ -13,31 +13,31 @@ use Rattle.numbers.proofs.Laws.{by-cases, both}
 use Rattle.calendar.specs.Calendar.{openHours}
 use Rattle.sharing.specs.Shares.{rowPart}
 use Rattle.record.specs.declared.Record.{Record}
-use Rattle.rows.specs.Store.{asRow}
+use Rattle.store.specs.Store.{asRow}
 use Rattle.rules.specs.Calls.{Opening, Call, billingHours, controlHours, billingVolume, controlVolume, neighbour, failure, admission, denial, permission, closing, isClosing}
 use Rattle.rules.specs.Rules.{Outcome, becomesPast, figures}
 use Rattle.rules.specs.Right.{NearShare, Right}
 use Rattle.model.specs.declared.Answer.{Answer}
 use Rattle.model.specs.Refusals.{openRefusal}
-use Rattle.model.specs.Model.{State, state, slot, refusal, accepted, leaves, figuresOf, hoursOut, answer, bufferAfter, Does}
+use Rattle.model.specs.Model.{State, state, rowOf, refusal, accepted, leaves, figuresOf, hoursOut, answer, bufferAfter, Does}
 use Rattle.model.specs.Opening.{opens, opened, openLeaves, openAnswer, Opens}
 use Rattle.model.proofs.Laws.{allowed}
 use Rattle.model.proofs.GoesOn.{opening-sound, never-refused}
 use Rattle.history.specs.Book.{Book, marksOf, monthOf, becamePast, volumes, workOut, feed}
-use Rattle.history.specs.Claim.{Turn, left, Follows, Run, took, closes, book, handed, allHanded, fillsRow, lastBuffer, withoutRefused, Each, Untouched, AsBook, GoesOn, Demand3Always}
+use Rattle.history.specs.Claim.{Turn, stateAfter, Follows, Run, wasAccepted, closes, book, handed, allHanded, fillsRow, lastBuffer, withoutRefused, Each, Untouched, AsBook, GoesOn, Demand3Always}
 use Rattle.history.proofs.Rows.{take-row, holds-same, holds-none}
-use Rattle.history.proofs.View.{lastIn, contents, pointOf, looking, Formed, Fine, Shows}
+use Rattle.history.proofs.View.{lastIn, contents, pointOf, lookBacks, OfItsMeter, MonthsClosed, Shows}
 use Rattle.history.proofs.Inputs.{month-contents}
 use Rattle.history.proofs.Steps.{entry-closes}
 use Rattle.history.proofs.Closings.{step, inputs-shown, right-shown}
 
 -- THE OPENING
 no-contents : (o : Opening) (r : ℕ) → [] ≡ contents o [] r
-unfolding contents looking
+unfolding contents lookBacks
 no-contents o r = by-cases (eqb r 12) (λ t. rw t) (λ f. by-cases (eqb r 13) (λ t. rw (f, t)) (λ g. rw (f, g)))
 
 opened-shows : (o : Opening) (store : List ℕ) → opens o store ≡ true → Shows o [] (opened o)
-unfolding opens opened pointOf looking Formed Fine
+unfolding opens opened pointOf lookBacks OfItsMeter MonthsClosed
 opened-shows o store t =
     record {
       sound = opening-sound o store t;
@@ -45,7 +45,7 @@ opened-shows o store t =
       rows = holds-same (no-contents o) holds-none;
       billing = tt;
       control = tt;
-      fine = allowed o (eqb-true (openRefusal (length store) o) 0 t) .month;
+      months = allowed o (eqb-true (openRefusal (length store) o) 0 t) .month;
     }
 
 -- an accepted opening leaves what it leaves in the model
@@ -67,27 +67,27 @@ start o s ts run =
     (opened-shows o (run .before) (opens-state o (run .before) (s .store) (run .answer) (run .opens) (run .accepted)))
 
 -- ONE TURN, by its contract
-module _ (s : State) (t : Turn) (ts : List Turn) (does : Does (left s ts) (t .call) (t .answer) (t .store) (t .buffer)) where
-  number : t .answer .refusal ≡ refusal (left s ts) (t .call)
+module _ (s : State) (t : Turn) (ts : List Turn) (does : Does (stateAfter s ts) (t .call) (t .answer) (t .store) (t .buffer)) where
+  number : t .answer .refusal ≡ refusal (stateAfter s ts) (t .call)
   unfolding answer
   number = ap (λ (x : Answer). x .refusal) (does .answered)
 
-  took-is : took t ≡ accepted (left s ts) (t .call)
-  unfolding took accepted
+  took-is : wasAccepted t ≡ accepted (stateAfter s ts) (t .call)
+  unfolding wasAccepted accepted
   took-is = ap (λ (n : ℕ). eqb n 0) number
 
-  left-is : left s (t ∷ ts) ≡ leaves (left s ts) (t .call)
-  unfolding left answer
+  left-is : stateAfter s (t ∷ ts) ≡ leaves (stateAfter s ts) (t .call)
+  unfolding stateAfter answer
   left-is = λ i. state (does .answered i .after) (does .left i)
 
-  left-refused : took t ≡ false → left s (t ∷ ts) ≡ left s ts
+  left-refused : wasAccepted t ≡ false → stateAfter s (t ∷ ts) ≡ stateAfter s ts
   unfolding leaves
   left-refused f = left-is ∙ rw (sym took-is ∙ f)
 
-  untouched : took t ≡ false → Untouched s t ts
-  unfolding left answer bufferAfter
+  untouched : wasAccepted t ≡ false → Untouched s t ts
+  unfolding stateAfter answer bufferAfter
   untouched f =
-      let n : accepted (left s ts) (t .call) ≡ false = sym took-is ∙ f in
+      let n : accepted (stateAfter s ts) (t .call) ≡ false = sym took-is ∙ f in
       record {
         point = ap (λ (x : State). x .point) (left-refused f);
         store = ap (λ (x : State). x .store) (left-refused f);
@@ -127,11 +127,11 @@ each s P h [] f = tt
 each s P h (t ∷ ts) f = (h t ts f, each s P h ts (f .1))
 
 -- THE LIST WITHOUT ITS REFUSED CALLS
-kept-left : (s : State) (ts : List Turn) → Follows s ts → left s (withoutRefused ts) ≡ left s ts
-unfolding Follows withoutRefused left
+kept-left : (s : State) (ts : List Turn) → Follows s ts → stateAfter s (withoutRefused ts) ≡ stateAfter s ts
+unfolding Follows withoutRefused stateAfter
 kept-left s [] f = refl
 kept-left s (t ∷ ts) f =
-    by-cases (took t)
+    by-cases (wasAccepted t)
     (λ y. rw y)
     (λ n. rw n (kept-left s ts (f .1) ∙ sym (left-refused s t ts (f .0) n)))
 
@@ -139,23 +139,23 @@ kept-follows : (s : State) (ts : List Turn) → Follows s ts → Follows s (with
 unfolding Follows withoutRefused
 kept-follows s [] f = tt
 kept-follows s (t ∷ ts) f =
-    by-cases (took t)
+    by-cases (wasAccepted t)
     (λ y. rw y (rw (kept-left s ts (f .1)) (f .0), kept-follows s ts (f .1)))
     (λ n. rw n (kept-follows s ts (f .1)))
 
 -- OF A RUN
 module _ (o : Opening) (s : State) (begun : Shows o [] s) where
-  keep-next : (t : Turn) (ts : List Turn) → Does (left s ts) (t .call) (t .answer) (t .store) (t .buffer) → Shows o (book o ts) (left s ts) → Shows o (book o (t ∷ ts)) (left s (t ∷ ts))
+  keep-next : (t : Turn) (ts : List Turn) → Does (stateAfter s ts) (t .call) (t .answer) (t .store) (t .buffer) → Shows o (book o ts) (stateAfter s ts) → Shows o (book o (t ∷ ts)) (stateAfter s (t ∷ ts))
   unfolding book feed leaves
   keep-next t ts does h =
-      let e : left s (t ∷ ts) ≡ leaves (left s ts) (t .call) = left-is s t ts does in
+      let e : stateAfter s (t ∷ ts) ≡ leaves (stateAfter s ts) (t .call) = left-is s t ts does in
       subst (Shows o (book o (t ∷ ts))) (sym e)
-      (by-cases (took t)
-      (λ y. rw (y, sym (took-is s t ts does) ∙ y) (step o (book o ts) (left s ts) (t .call) h (sym (took-is s t ts does) ∙ y)))
+      (by-cases (wasAccepted t)
+      (λ y. rw (y, sym (took-is s t ts does) ∙ y) (step o (book o ts) (stateAfter s ts) (t .call) h (sym (took-is s t ts does) ∙ y)))
       (λ n. rw (n, sym (took-is s t ts does) ∙ n) h))
 
-  keep : (ts : List Turn) → Follows s ts → Shows o (book o ts) (left s ts)
-  unfolding Follows book left
+  keep : (ts : List Turn) → Follows s ts → Shows o (book o ts) (stateAfter s ts)
+  unfolding Follows book stateAfter
   keep [] f = begun
   keep (t ∷ ts) f = keep-next t ts (f .0) (keep ts (f .1))
 
@@ -163,15 +163,15 @@ module _ (o : Opening) (s : State) (begun : Shows o [] s) where
   unfolding Follows
   goes-on t ts f =
       let e = number s t ts (f .0) in
-      let n = never-refused (left s ts) (t .call) (keep ts (f .1) .sound) in
+      let n = never-refused (stateAfter s ts) (t .call) (keep ts (f .1) .sound) in
       record { long = rw e (n .0); sound = rw e (n .1); small = rw e (n .2) }
 
   -- an accepted closing
   closed-turn : (t : Turn) (ts : List Turn) → Follows s (t ∷ ts) → closes t ≡ true → Closed o (book o ts) (t .call) (t .answer) (t .buffer)
   unfolding Follows closes
   closed-turn t ts f y =
-      let p = both (took t) (isClosing (t .call)) y in
-      does-close o (book o ts) (left s ts) (t .call) (t .answer) (t .store) (t .buffer) (keep ts (f .1)) (f .0) (sym (took-is s t ts (f .0)) ∙ p .0) (p .1)
+      let p = both (wasAccepted t) (isClosing (t .call)) y in
+      does-close o (book o ts) (stateAfter s ts) (t .call) (t .answer) (t .store) (t .buffer) (keep ts (f .1)) (f .0) (sym (took-is s t ts (f .0)) ∙ p .0) (p .1)
 
   handed-same : (t : Turn) (ts : List Turn) → Follows s (t ∷ ts) → closes t ≡ true → handed o t ts ≡ workOut o (book o ts) (t .call) .hours
   unfolding handed
@@ -189,7 +189,7 @@ module _ (o : Opening) (s : State) (begun : Shows o [] s) where
   near t ts f y h l = rw (handed-same t ts f y) (closed-turn t ts f y .right .near h l)
 
   -- the total
-  total-book : (ts : List Turn) → Follows s ts → left s ts .point .total .0 ≡ volumes (book o ts)
+  total-book : (ts : List Turn) → Follows s ts → stateAfter s ts .point .total .0 ≡ volumes (book o ts)
   unfolding pointOf
   total-book ts f = ap (λ (r : Record). r .total .0) (keep ts f .point)
 
@@ -201,7 +201,7 @@ module _ (o : Opening) (s : State) (begun : Shows o [] s) where
   volumes-next : (t : Turn) (ts : List Turn) → Follows s (t ∷ ts) → volumes (book o (t ∷ ts)) ≡ sum (handed o t ts) + volumes (book o ts)
   unfolding volumes book feed closes
   volumes-next t ts f =
-      by-cases (took t)
+      by-cases (wasAccepted t)
       (λ y.
       by-cases (isClosing (t .call))
       (λ c.
@@ -220,14 +220,14 @@ module _ (o : Opening) (s : State) (begun : Shows o [] s) where
   last-next : (r : ℕ) (t : Turn) (ts : List Turn) → Follows s (t ∷ ts) → asRow (lastIn o (book o (t ∷ ts)) r) ≡ cond (fillsRow o r t ts) (t .buffer) (asRow (lastIn o (book o ts) r))
   unfolding lastIn book feed fillsRow closes becamePast becomesPast figures
   last-next r t ts f =
-      by-cases (took t)
+      by-cases (wasAccepted t)
       (λ y.
       by-cases (isClosing (t .call))
       (λ c.
       let k = closed-turn t ts f (rw (y, c)) in
       let u : Outcome = workOut o (book o ts) (t .call) in
       rw (y, entry-closes (t .call) u, c, k .answered, k .buffered)
-      (by-cases ((eqb (u .ground) 1 || eqb (u .ground) 2) && eqb r (slot (monthOf o (book o ts)))) (λ b. rw b) (λ b. rw b)))
+      (by-cases ((eqb (u .ground) 1 || eqb (u .ground) 2) && eqb r (rowOf (monthOf o (book o ts)))) (λ b. rw b) (λ b. rw b)))
       (λ n. rw (y, entry-closes (t .call) (workOut o (book o ts) (t .call)), n)))
       (λ n. rw n)
 
@@ -236,7 +236,7 @@ module _ (o : Opening) (s : State) (begun : Shows o [] s) where
   last-buffer r [] f = refl
   last-buffer r (t ∷ ts) f = last-next r t ts f ∙ ap (λ (x : List ℕ). cond (fillsRow o r t ts) (t .buffer) x) (last-buffer r ts (f .1))
 
-  rows : (ts : List Turn) → Follows s ts → (r : ℕ) → r < 12 → rowPart (left s ts .store) r 744 ≡ lastBuffer o r ts
+  rows : (ts : List Turn) → Follows s ts → (r : ℕ) → r < 12 → rowPart (stateAfter s ts .store) r 744 ≡ lastBuffer o r ts
   rows ts f r l = keep ts f .rows .rows r (omega arith) ∙ ap asRow (month-contents o (book o ts) r l) ∙ last-buffer r ts f
 
 -- DEMAND 3

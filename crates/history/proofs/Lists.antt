@@ -10,11 +10,11 @@ use Rattle.calendar.specs.Calendar.{leapYear, isMonth, monthDays, monthHours, o
 use Rattle.power.specs.Power.{agreedFits}
 use Rattle.record.specs.Record.{zeroRecord}
 use Rattle.rules.specs.Calls.{Opening, Call, denial, permission, closing}
-use Rattle.rows.specs.Store.{emptyStore}
+use Rattle.store.specs.Store.{emptyStore}
 use Rattle.model.specs.Refusals.{refuse, openRefusal}
 use Rattle.model.specs.Model.{State, state, answer, leaves, bufferAfter}
 use Rattle.model.specs.Opening.{opens, opened, openLeaves, openAnswer}
-use Rattle.history.specs.Claim.{Turn, left, Follows, Run, took, closes, book, handed, allHanded, fillsRow, lastBuffer, withoutRefused}
+use Rattle.history.specs.Claim.{Turn, stateAfter, Follows, Run, wasAccepted, closes, book, handed, allHanded, fillsRow, lastBuffer, withoutRefused}
 use Rattle.history.proofs.Examples.{o, reading}
 
 -- THE TURNS OF A LIST OF CALLS, each as its contract has it
@@ -23,7 +23,7 @@ turn s c = record { call = c; answer = answer s c; store = leaves s c .store; bu
 
 unfoldable turns : State → List Call → List Turn
 turns s [] = []
-turns s (c ∷ cs) = turn (left s (turns s cs)) c ∷ turns s cs
+turns s (c ∷ cs) = turn (stateAfter s (turns s cs)) c ∷ turns s cs
 
 abbrev callsOf : List Turn → List Call
 callsOf [] = []
@@ -92,18 +92,18 @@ again zero t ts = ts
 again (suc n) t ts = t ∷ again n t ts
 
 unfoldable listing : Unit {0}
-unfolding reading left took closes book handed allHanded fillsRow lastBuffer withoutRefused openHours monthHours monthDays leapYear isMonth
+unfolding reading stateAfter wasAccepted closes book handed allHanded fillsRow lastBuffer withoutRefused openHours monthHours monthDays leapYear isMonth
 listing = tt
 
 -- accepted is number 0; only an accepted closing closes
 accepts :
-    (took (said denial 0 0 []) ≡ true) × (took (said denial 33 0 []) ≡ false) × (took (said denial 1 0 []) ≡ false)
+    (wasAccepted (said denial 0 0 []) ≡ true) × (wasAccepted (said denial 33 0 []) ≡ false) × (wasAccepted (said denial 1 0 []) ≡ false)
     × (closes (shut 8 1) ≡ true) × (closes (refused 1) ≡ false) × (closes (said denial 0 0 []) ≡ false)
 unfolding listing
 accepts = (refl, refl, refl, refl, refl, refl)
 
 -- the record and store of the newest turn, or else the opening's
-leavings : (s : State) → (left s [] ≡ s) × (left s (shut 8 1 ∷ shut 7 2 ∷ []) ≡ state zeroRecord (8 ∷ []))
+leavings : (s : State) → (stateAfter s [] ≡ s) × (stateAfter s (shut 8 1 ∷ shut 7 2 ∷ []) ≡ state zeroRecord (8 ∷ []))
 unfolding listing
 leavings s = (refl, refl)
 

@@ -13,8 +13,8 @@ use lib.Seq.{take-at, take-take, getD-take, getD-drop, getD-set-same, getD-set-o
 use Rattle.numbers.specs.Lists.{tab, zeros, padded}
 use Rattle.numbers.proofs.Laws.{by-cases, length-tab, at-tab, at-zeros}
 use Rattle.sharing.specs.Shares.{rowPart}
-use Rattle.rows.specs.Store.{asRow, withHours, emptyStore}
-use Rattle.rows.proofs.Laws.{length-row, length-put, row-put-same, row-put-other, padded-none}
+use Rattle.store.specs.Store.{asRow, withHours, emptyStore}
+use Rattle.store.proofs.Laws.{length-row, length-put, row-put-same, row-put-other, padded-none}
 
 -- hours as a row, and back
 pub take-row : (hs : List ℕ) (t : ℕ) → length hs ≡ t → take t (asRow hs) ≡ hs
@@ -27,15 +27,15 @@ pub record Holds (f : ℕ → List ℕ) (store : List ℕ) : Type 0 where
   pub rows : (r : ℕ) → r ≤ 13 → rowPart store r 744 ≡ asRow (f r)
 
 -- a function changed at q
-abbrev pub upd {ℓ} : {A : Type ℓ} → (ℕ → A) → ℕ → A → ℕ → A
-upd f q x i = cond (eqb i q) x (f i)
+abbrev pub replacedAt {ℓ} : {A : Type ℓ} → (ℕ → A) → ℕ → A → ℕ → A
+replacedAt f q x i = cond (eqb i q) x (f i)
 
 -- the same hours
 pub holds-same : {f g : ℕ → List ℕ} {store : List ℕ} → ((r : ℕ) → f r ≡ g r) → Holds f store → Holds g store
 holds-same e h = record { words = h .words; rows = λ r l. h .rows r l ∙ ap asRow (e r) }
 
 -- hours written into row q
-pub holds-put : {f : ℕ → List ℕ} {store : List ℕ} (q : ℕ) (hs : List ℕ) → q ≤ 13 → length hs ≤ 744 → Holds f store → Holds (upd f q hs) (withHours q hs store)
+pub holds-put : {f : ℕ → List ℕ} {store : List ℕ} (q : ℕ) (hs : List ℕ) → q ≤ 13 → length hs ≤ 744 → Holds f store → Holds (replacedAt f q hs) (withHours q hs store)
 holds-put {f} {store} q hs l m h =
     let long = length-row hs m in
     record {
@@ -68,12 +68,12 @@ pub holds-none : Holds (λ r. []) emptyStore
 holds-none = record { words = length-replicate {A = ℕ} 10416 0; rows = λ r l. padded-none 744 (part-zeros 10416 (744 * r) 744 (omega arith)) }
 
 -- a table with one place replaced
-pub set-tab : (f : ℕ → ℕ) (n q x : ℕ) → q < n → set (tab n f) q x ≡ tab n (upd f q x)
+pub set-tab : (f : ℕ → ℕ) (n q x : ℕ) → q < n → set (tab n f) q x ≡ tab n (replacedAt f q x)
 set-tab f n q x l =
-    ext-getD 0 (set (tab n f) q x) (tab n (upd f q x)) (length-set (tab n f) q x ∙ length-tab n f ∙ sym (length-tab n (upd f q x)))
+    ext-getD 0 (set (tab n f) q x) (tab n (replacedAt f q x)) (length-set (tab n f) q x ∙ length-tab n f ∙ sym (length-tab n (replacedAt f q x)))
     λ i b.
     let m : i < n = omega (arith, length-set (tab n f) q x, length-tab n f) in
-    rw (at-tab n (upd f q x) i m)
+    rw (at-tab n (replacedAt f q x) i m)
     (by-cases (eqb i q)
     (λ t. rw (t, eqb-true i q t) (getD-set-same (tab n f) q x 0 (rw (length-tab n f) l)))
     (λ g. rw g (getD-set-other (tab n f) q i x 0 (eqb-false i q g) ∙ at-tab n f i m)))

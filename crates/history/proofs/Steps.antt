@@ -16,12 +16,12 @@ use Rattle.rules.specs.Calls.{Opening, Call, billingHours, controlHours, billin
 use Rattle.rules.specs.Rules.{Measured, missing, hourly, whole, Outcome, becomesPast}
 use Rattle.model.specs.Refusals.{ownRefusal}
 use Rattle.model.specs.Model.{accept, accepted}
-use Rattle.model.proofs.Laws.{read}
-use Rattle.model.proofs.Keeps.{own}
+use Rattle.model.proofs.Laws.{reading-passed}
+use Rattle.model.proofs.Keeps.{call-passed}
 use Rattle.model.proofs.GoesOn.{call-sound}
-use Rattle.history.specs.Book.{Entry, Book, control, closed, kindOf, kindNumber, is, monthOf, denialsOf, billingOf, thisMonths, becamePast, workOut}
-use Rattle.history.proofs.Rows.{Holds, upd, holds-same, holds-put}
-use Rattle.history.proofs.View.{givenBy, hoursOf, lastIn, contents, pointOf, seen, looking, Formed, Entered, Fine, Shows}
+use Rattle.history.specs.Book.{Entry, Book, control, closed, kindOf, kindNumber, ofKind, monthOf, denialsOf, billingOf, thisMonths, becamePast, workOut}
+use Rattle.history.proofs.Rows.{Holds, replacedAt, holds-same, holds-put}
+use Rattle.history.proofs.View.{givenBy, hoursRead, lastIn, contents, pointOf, seen, lookBacks, OfItsMeter, Entered, MonthsClosed, Shows}
 use Rattle.history.proofs.Months.{last-is-any}
 use Rattle.history.proofs.Inputs.{hours-most}
 
@@ -30,19 +30,19 @@ abbrev pub entry : Opening → Book → Call → Entry
 entry o es c = record { call = c; out = workOut o es c }
 
 -- row 12 or 13 is written, and the others stay
-row-12 : (o : Opening) (es fs : Book) (hs : List ℕ) → hs ≡ hoursOf (billingOf fs) → thisMonths (is control) es ≡ thisMonths (is control) fs
-    → ((r : ℕ) → lastIn o es r ≡ lastIn o fs r) → (r : ℕ) → upd (contents o es) 12 hs r ≡ contents o fs r
+row-12 : (o : Opening) (es fs : Book) (hs : List ℕ) → hs ≡ hoursRead (billingOf fs) → thisMonths (ofKind control) es ≡ thisMonths (ofKind control) fs
+    → ((r : ℕ) → lastIn o es r ≡ lastIn o fs r) → (r : ℕ) → replacedAt (contents o es) 12 hs r ≡ contents o fs r
 unfolding contents
 row-12 o es fs hs b c l r = by-cases (eqb r 12) (λ t. rw t b) (λ f. rw (f, c, l r))
 
-row-13 : (o : Opening) (es fs : Book) (hs : List ℕ) → hs ≡ hoursOf (thisMonths (is control) fs) → billingOf es ≡ billingOf fs
-    → ((r : ℕ) → lastIn o es r ≡ lastIn o fs r) → (r : ℕ) → upd (contents o es) 13 hs r ≡ contents o fs r
+row-13 : (o : Opening) (es fs : Book) (hs : List ℕ) → hs ≡ hoursRead (thisMonths (ofKind control) fs) → billingOf es ≡ billingOf fs
+    → ((r : ℕ) → lastIn o es r ≡ lastIn o fs r) → (r : ℕ) → replacedAt (contents o es) 13 hs r ≡ contents o fs r
 unfolding contents
 row-13 o es fs hs c b l r = by-cases (eqb r 13) (λ t. rw (eqb-true r 13 t) c) (λ f. rw (f, b, l r))
 
 -- a reading that is not given has no hours
-no-hours : (m : Measured) → isSet (givenBy m .given) ≡ false → hoursOf m ≡ []
-unfolding givenBy hoursOf
+no-hours : (m : Measured) → isSet (givenBy m .given) ≡ false → hoursRead m ≡ []
+unfolding givenBy hoursRead
 no-hours missing e = refl
 no-hours (hourly hs) e = absurd (true≢false e)
 no-hours (whole v) e = refl
@@ -51,8 +51,8 @@ tested : {a b : ℕ} → not (eqb a b) ≡ false → a ≡ b
 tested {a} {b} e = eqb-true a b (not-false (eqb a b) e)
 
 -- an entry closes a month where its call does
-pub entry-closes : (c : Call) (u : Outcome) → is closed (record { call = c; out = u }) ≡ isClosing c
-unfolding is kindOf kindNumber isClosing
+pub entry-closes : (c : Call) (u : Outcome) → ofKind closed (record { call = c; out = u }) ≡ isClosing c
+unfolding ofKind kindOf kindNumber isClosing
 entry-closes (billingHours hs) u = refl
 entry-closes (controlHours hs) u = refl
 entry-closes (billingVolume v) u = refl
@@ -68,10 +68,10 @@ entry-closes (closing marks buffer) u = refl
 open-entered : (o : Opening) (es : Book) (c : Call) → isClosing c ≡ false → Entered o (entry o es c) es
 unfolding becamePast
 open-entered o es c f =
-    let n : is closed (entry o es c) ≡ false = entry-closes c (workOut o es c) ∙ f in
+    let n : ofKind closed (entry o es c) ≡ false = entry-closes c (workOut o es c) ∙ f in
     record {
       month = λ t. absurd (true≢false (sym t ∙ n));
-      long = λ t. absurd (true≢false (sym (both (is closed (entry o es c)) (becomesPast (workOut o es c)) t .0) ∙ n));
+      long = λ t. absurd (true≢false (sym (both (ofKind closed (entry o es c)) (becomesPast (workOut o es c)) t .0) ∙ n));
     }
 
 module _ (o : Opening) (es : Book) (store : List ℕ) (h : Shows o es (seen o es store)) where
@@ -82,57 +82,57 @@ module _ (o : Opening) (es : Book) (store : List ℕ) (h : Shows o es (seen o es
   between : (c : Call) → accepted (seen o es store) c ≡ true → isClosing c ≡ false
       → accept (seen o es store) c .point ≡ pointOf o (entry o es c ∷ es)
       → Holds (contents o (entry o es c ∷ es)) (accept (seen o es store) c .store)
-      → Formed (o .asked .billing) (openHours (monthOf o (entry o es c ∷ es))) (billingOf (entry o es c ∷ es))
-      → Formed (o .asked .control) (openHours (monthOf o (entry o es c ∷ es))) (thisMonths (is control) (entry o es c ∷ es))
+      → OfItsMeter (o .asked .billing) (openHours (monthOf o (entry o es c ∷ es))) (billingOf (entry o es c ∷ es))
+      → OfItsMeter (o .asked .control) (openHours (monthOf o (entry o es c ∷ es))) (thisMonths (ofKind control) (entry o es c ∷ es))
       → Shows o (entry o es c ∷ es) (accept (seen o es store) c)
-  unfolding Fine
+  unfolding MonthsClosed
   between c t n p r b k =
-      record { sound = call-sound (seen o es store) c (h .sound) t; point = p; rows = r; billing = b; control = k; fine = (open-entered o es c n, h .fine) }
+      record { sound = call-sound (seen o es store) c (h .sound) t; point = p; rows = r; billing = b; control = k; months = (open-entered o es c n, h .months) }
 
   pub step-admission : Steps admission
-  unfolding accept pointOf contents looking
+  unfolding accept pointOf contents lookBacks
   step-admission t = between admission t refl refl (holds-same (λ r. refl) (h .rows)) (h .billing) (h .control)
 
   pub step-permission : Steps permission
-  unfolding accept pointOf contents looking
+  unfolding accept pointOf contents lookBacks
   step-permission t = between permission t refl refl (holds-same (λ r. refl) (h .rows)) (h .billing) (h .control)
 
   pub step-billing-hours : (hs : List ℕ) → Steps (billingHours hs)
-  unfolding accept pointOf kept looking ownRefusal Formed
+  unfolding accept pointOf kept lookBacks ownRefusal OfItsMeter
   step-billing-hours hs t =
-      let q = read (own (seen o es store) (billingHours hs) t .on) in
+      let q = reading-passed (call-passed (seen o es store) (billingHours hs) t .own) in
       let e : length hs ≡ openHours (monthOf o es) = tested (q .long) in
       between (billingHours hs) t refl refl
       (holds-same (row-12 o es (entry o es (billingHours hs) ∷ es) hs refl refl (λ r. refl)) (holds-put 12 hs (lit≤ tt) (omega (arith, hours-most (monthOf o es))) (h .rows)))
       (tested (q .meter), e) (h .control)
 
   pub step-control-hours : (hs : List ℕ) → Steps (controlHours hs)
-  unfolding accept pointOf kept looking ownRefusal Formed
+  unfolding accept pointOf kept lookBacks ownRefusal OfItsMeter
   step-control-hours hs t =
-      let q = read (own (seen o es store) (controlHours hs) t .on) in
+      let q = reading-passed (call-passed (seen o es store) (controlHours hs) t .own) in
       let e : length hs ≡ openHours (monthOf o es) = tested (q .long) in
       between (controlHours hs) t refl refl
       (holds-same (row-13 o es (entry o es (controlHours hs) ∷ es) hs refl refl (λ r. refl)) (holds-put 13 hs (lit≤ tt) (omega (arith, hours-most (monthOf o es))) (h .rows)))
       (h .billing) (tested (q .meter), e)
 
   pub step-billing-volume : (v : ℕ) → Steps (billingVolume v)
-  unfolding accept pointOf kept contents looking ownRefusal Formed
+  unfolding accept pointOf kept contents lookBacks ownRefusal OfItsMeter
   step-billing-volume v t =
-      let q = read (own (seen o es store) (billingVolume v) t .on) in
-      let n : hoursOf (billingOf es) ≡ [] = no-hours (billingOf es) (q .first) in
+      let q = reading-passed (call-passed (seen o es store) (billingVolume v) t .own) in
+      let n : hoursRead (billingOf es) ≡ [] = no-hours (billingOf es) (q .first) in
       between (billingVolume v) t refl refl (holds-same (λ r. rw n) (h .rows)) (tested (q .meter)) (h .control)
 
   pub step-control-volume : (v : ℕ) → Steps (controlVolume v)
-  unfolding accept pointOf kept contents looking ownRefusal Formed
+  unfolding accept pointOf kept contents lookBacks ownRefusal OfItsMeter
   step-control-volume v t =
-      let q = read (own (seen o es store) (controlVolume v) t .on) in
-      let n : hoursOf (thisMonths (is control) es) ≡ [] = no-hours (thisMonths (is control) es) (q .first) in
+      let q = reading-passed (call-passed (seen o es store) (controlVolume v) t .own) in
+      let n : hoursRead (thisMonths (ofKind control) es) ≡ [] = no-hours (thisMonths (ofKind control) es) (q .first) in
       between (controlVolume v) t refl refl (holds-same (λ r. rw n) (h .rows)) (h .billing) (tested (q .meter))
 
   pub step-neighbour : (source v : ℕ) → Steps (neighbour source v)
-  unfolding accept pointOf contents looking ownRefusal
+  unfolding accept pointOf contents lookBacks ownRefusal
   step-neighbour source v t =
-      let q = read (own (seen o es store) (neighbour source v) t .on) in
+      let q = reading-passed (call-passed (seen o es store) (neighbour source v) t .own) in
       between (neighbour source v) t refl
       (by-cases (eqb source 1)
       (λ y. rw (eqb-true source 1 y))
@@ -140,7 +140,7 @@ module _ (o : Opening) (es : Book) (store : List ℕ) (h : Shows o es (seen o es
       (holds-same (λ r. refl) (h .rows)) (h .billing) (h .control)
 
   pub step-denial : Steps denial
-  unfolding accept pointOf contents looking Formed
+  unfolding accept pointOf contents lookBacks OfItsMeter
   step-denial t =
       between denial t refl
       (by-cases (eqb (denialsOf es) 1) (λ y. rw (y, add-one)) (λ f. rw (f, add-one)))
@@ -151,9 +151,9 @@ module _ (o : Opening) (es : Book) (store : List ℕ) (h : Shows o es (seen o es
       (h .control)
 
   pub step-failure : (reason : ℕ) → Steps (failure reason)
-  unfolding accept pointOf looking Formed
+  unfolding accept pointOf lookBacks OfItsMeter
   step-failure reason t =
       between (failure reason) t refl
-      (rw (last-is-any o (monthNumber (monthOf o es)) es (h .fine)))
+      (rw (last-is-any o (monthNumber (monthOf o es)) es (h .months)))
       (holds-same (row-12 o es (entry o es (failure reason) ∷ es) [] refl refl (λ r. refl)) (holds-put 12 [] (lit≤ tt) (lit≤ tt) (h .rows)))
       tt (h .control)

@@ -8,7 +8,7 @@ use Rattle.calendar.specs.declared.Date.{Date}
 use Rattle.calendar.specs.Calendar.{monthNumber, nextMonth}
 use Rattle.contract.specs.Contract.{kept}
 use Rattle.rules.specs.Calls.{Opening, Call, billingHours, controlHours, billingVolume, controlVolume, neighbour, failure, admission, denial, permission, closing, isClosing, isFault}
-use Rattle.rules.specs.Rules.{Measured, missing, hourly, whole, Stated, unstated, stated, PastHours, none, some, Inputs, Outcome, countedOf, neighbourOf, rules, becomesPast}
+use Rattle.rules.specs.Rules.{Measured, missing, hourly, whole, Stated, unstated, stated, PastHours, noPastHours, pastHours, Inputs, Outcome, countedOf, neighbourOf, rules, becomesPast}
 
 -- an accepted call, and what the book worked out if it is a closing
 pub record Entry : Type 0 where
@@ -46,21 +46,21 @@ kindNumber denied = 5
 kindNumber permitted = 6
 kindNumber closed = 7
 
-unfoldable pub is : Kind → Entry → Bool
-is k e = eqb (kindNumber (kindOf (e .call))) (kindNumber k)
+unfoldable pub ofKind : Kind → Entry → Bool
+ofKind k e = eqb (kindNumber (kindOf (e .call))) (kindNumber k)
 
 -- the source of a neighbour reading, the reason of a failure
-unfoldable pub argumentOf : Call → ℕ
-argumentOf (billingHours hours) = 0
-argumentOf (controlHours hours) = 0
-argumentOf (billingVolume v) = 0
-argumentOf (controlVolume v) = 0
-argumentOf (neighbour source v) = source
-argumentOf (failure reason) = reason
-argumentOf admission = 0
-argumentOf denial = 0
-argumentOf permission = 0
-argumentOf (closing marks buffer) = 0
+unfoldable pub sourceOrReason : Call → ℕ
+sourceOrReason (billingHours hours) = 0
+sourceOrReason (controlHours hours) = 0
+sourceOrReason (billingVolume v) = 0
+sourceOrReason (controlVolume v) = 0
+sourceOrReason (neighbour source v) = source
+sourceOrReason (failure reason) = reason
+sourceOrReason admission = 0
+sourceOrReason denial = 0
+sourceOrReason permission = 0
+sourceOrReason (closing marks buffer) = 0
 
 -- the reading that a call brings
 unfoldable pub readingOf : Call → Measured
@@ -90,39 +90,39 @@ marksOf (closing marks buffer) = marks
 
 -- a neighbour reading of source n
 unfoldable pub isFrom : ℕ → Entry → Bool
-isFrom n e = is neighbouring e && eqb (argumentOf (e .call)) n
+isFrom n e = ofKind neighbouring e && eqb (sourceOrReason (e .call)) n
 
 -- a failure of reason 1 or 2
 unfoldable pub isFaulty : Entry → Bool
-isFaulty e = is failed e && isFault (argumentOf (e .call))
+isFaulty e = ofKind failed e && isFault (sourceOrReason (e .call))
 
 -- LOOKING BACK
 -- a call's month is the opening's plus one for each closing before it
 unfoldable pub monthOf : Opening → Book → Date
 monthOf o [] = o .date
-monthOf o (e ∷ es) = cond (is closed e) (nextMonth (monthOf o es)) (monthOf o es)
+monthOf o (e ∷ es) = cond (ofKind closed e) (nextMonth (monthOf o es)) (monthOf o es)
 
 -- denials: those since the last permission, or else the opening
 unfoldable pub denialsOf : Book → ℕ
 denialsOf [] = 0
 denialsOf (e ∷ es) =
-    cond (is permitted e) 0 (cond (is denied e) (suc (denialsOf es)) (denialsOf es))
+    cond (ofKind permitted e) 0 (cond (ofKind denied e) (suc (denialsOf es)) (denialsOf es))
 
 -- the entry e, after es, discards the billing reading: a failure or the second denial, which is the one that makes them 2
 unfoldable pub discards : Entry → Book → Bool
-discards e es = is failed e || (is denied e && eqb (denialsOf es) 1)
+discards e es = ofKind failed e || (ofKind denied e && eqb (denialsOf es) 1)
 
 -- billing reading: this month's last, unless a later failure or second denial discarded it. This month's calls are those since the last closing, or else the opening
 unfoldable pub billingOf : Book → Measured
 billingOf [] = missing
 billingOf (e ∷ es) =
-    cond (is closed e || discards e es) missing
-    (cond (is billing e) (readingOf (e .call)) (billingOf es))
+    cond (ofKind closed e || discards e es) missing
+    (cond (ofKind billing e) (readingOf (e .call)) (billingOf es))
 
 -- control and neighbour readings: this month's, told by a test
 unfoldable pub thisMonths : (Entry → Bool) → Book → Measured
 thisMonths test [] = missing
-thisMonths test (e ∷ es) = cond (is closed e) missing (cond (test e) (readingOf (e .call)) (thisMonths test es))
+thisMonths test (e ∷ es) = cond (ofKind closed e) missing (cond (test e) (readingOf (e .call)) (thisMonths test es))
 
 -- a neighbour reading is a volume
 unfoldable pub asStated : Measured → Stated
@@ -144,37 +144,37 @@ isRepeat o e es = isFaulty e && faultSince o (monthNumber (monthOf o es)) es
 
 -- a closing on ground 1 or 2
 unfoldable pub becamePast : Entry → Bool
-becamePast e = is closed e && becomesPast (e .out)
+becamePast e = ofKind closed e && becomesPast (e .out)
 
 -- run: the closings since the latest of the opening, a closing on ground 1 or 2, and a repeat
 unfoldable pub runOf : Opening → Book → ℕ
 runOf o [] = 0
 runOf o (e ∷ es) =
-    cond (becamePast e || isRepeat o e es) 0 (cond (is closed e) (suc (runOf o es)) (runOf o es))
+    cond (becamePast e || isRepeat o e es) 0 (cond (ofKind closed e) (suc (runOf o es)) (runOf o es))
 
 -- the book's hours of the month n, if closed on ground 1 or 2
 unfoldable pub hoursAt : Opening → ℕ → Book → PastHours
-hoursAt o n [] = none
-hoursAt o n (e ∷ es) = cond (becamePast e && eqb (monthNumber (monthOf o es)) n) (some (e .out .hours)) (hoursAt o n es)
+hoursAt o n [] = noPastHours
+hoursAt o n (e ∷ es) = cond (becamePast e && eqb (monthNumber (monthOf o es)) n) (pastHours (e .out .hours)) (hoursAt o n es)
 
 -- the first, or else the second
-unfoldable pub orElse : PastHours → PastHours → PastHours
-orElse none q = q
-orElse (some hs) q = some hs
+unfoldable pub orElsePast : PastHours → PastHours → PastHours
+orElsePast noPastHours q = q
+orElsePast (pastHours hs) q = pastHours hs
 
 -- of the latest closing on 1 or 2
 unfoldable pub latestHours : Book → PastHours
-latestHours [] = none
-latestHours (e ∷ es) = cond (becamePast e) (some (e .out .hours)) (latestHours es)
+latestHours [] = noPastHours
+latestHours (e ∷ es) = cond (becamePast e) (pastHours (e .out .hours)) (latestHours es)
 
 -- past: the book's hours of the same month last year, if closed on ground 1 or 2; else of the latest closing on 1 or 2; else none
 unfoldable pub pastOf : Opening → Book → PastHours
-pastOf o es = orElse (hoursAt o (monthNumber (monthOf o es) - 12) es) (latestHours es)
+pastOf o es = orElsePast (hoursAt o (monthNumber (monthOf o es) - 12) es) (latestHours es)
 
 -- the sum of the book's month volumes
 unfoldable pub volumes : Book → ℕ
 volumes [] = 0
-volumes (e ∷ es) = cond (is closed e) (e .out .volume + volumes es) (volumes es)
+volumes (e ∷ es) = cond (ofKind closed e) (e .out .volume + volumes es) (volumes es)
 
 -- AT A CLOSING: with these, the marks and the opening's contract
 unfoldable pub inputsOf : Opening → Book → List ℕ → Inputs
@@ -185,7 +185,7 @@ inputsOf o es marks =
       marks = marks;
       counted = countedOf (runOf o es) (denialsOf es);
       billing = billingOf es;
-      control = thisMonths (is control) es;
+      control = thisMonths (ofKind control) es;
       neighbour = neighbourOf (sourceOf 1 es) (sourceOf 2 es);
       past = pastOf o es;
     }

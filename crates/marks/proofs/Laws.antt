@@ -10,12 +10,12 @@ use lib.Dec.{eqb, ltb}
 use lib.ListN.{length, List·getD-eq-default}
 use Rattle.numbers.specs.Lists.{sumTo, anyTo, countTo, at}
 use Rattle.numbers.specs.Rounding.{halfUp}
-use Rattle.numbers.proofs.Laws.{by-cases, neither, sum-stop, sum-parts, sum-same, sum-most, sum-weighted, count-any, count-some, count-holds, Holds, none-at}
+use Rattle.numbers.proofs.Laws.{by-cases, neither, sum-stop, sum-parts, sum-same, sum-most, sum-weighted, count-any, count-some, count-holds, HoldsOfOne, none-at}
 use Rattle.numbers.proofs.Rounds.{half-up-most}
 use Rattle.marks.specs.Marks.{peakAt, capacityAt, peakCount, dayOf, isWorking, isCrowded, isUnmatched, workingDays, crowded, unmatched, surveyWith, surveyOf, capacitySum, capacityOf, capacityIn}
 
 -- a day is a working day just where it has a capacity hour
-pub working-has : (marks : List ℕ) (k : ℕ) → isWorking (dayOf marks k) ≡ true → Holds (λ h. capacityAt marks (24 * k + h)) 24
+pub working-has : (marks : List ℕ) (k : ℕ) → isWorking (dayOf marks k) ≡ true → HoldsOfOne (λ h. capacityAt marks (24 * k + h)) 24
 working-has marks k e = count-holds (λ h. capacityAt marks (24 * k + h)) 24 (ltb-true 0 _ e)
 
 pub has-working : (marks : List ℕ) (k h : ℕ) → h < 24 → capacityAt marks (24 * k + h) ≡ true → isWorking (dayOf marks k) ≡ true

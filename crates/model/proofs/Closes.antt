@@ -22,24 +22,24 @@ use Rattle.record.specs.declared.Reading.{Reading}
 use Rattle.record.specs.declared.Record.{Record}
 use Rattle.record.specs.Record.{isSet, withRun}
 use Rattle.validity.specs.Valid.{allOf, contractTests, yearFits, readingTests, volumeLimit}
-use Rattle.validity.proofs.Laws.{each, valid-parts, valid-from, service-parts, service-from, PastFits, past-parts, past-from, readings-parts, none-fit}
-use Rattle.rows.specs.Store.{asRow, putRow, storeFits}
-use Rattle.rows.proofs.Laws.{length-row, length-put, put-fits-month, put-fits-past, row-part-fits, row-part-fits-month}
+use Rattle.validity.proofs.Laws.{each-test, valid-parts, valid-from, service-parts, service-from, PastFits, past-parts, past-from, readings-parts, none-fit}
+use Rattle.store.specs.Store.{asRow, putRow, storeFits}
+use Rattle.store.proofs.Laws.{length-row, length-put, put-fits-month, put-fits-past, row-part-fits, row-part-fits-month}
 use Rattle.rules.specs.Calls.{closing}
-use Rattle.rules.specs.Rules.{whole, some, rules, becomesPast}
-use Rattle.rules.specs.Right.{HoursFit, MeasuredFits, PastHoursFit, Sane}
+use Rattle.rules.specs.Rules.{whole, rules, becomesPast}
+use Rattle.rules.specs.Right.{HoursFit, MeasuredFits, PastHoursFit, InputsFit}
 use Rattle.rules.proofs.Laws.{rules-right}
 use Rattle.model.specs.Refusals.{ownRefusal}
-use Rattle.model.specs.Model.{State, measuredIn, slot, lastYear, pastIn, inputs, pastAfter, runAfter, rowsAfter, closedWith, accept, accepted}
-use Rattle.model.specs.Sound.{Fits, Room}
+use Rattle.model.specs.Model.{State, measuredIn, rowOf, lastYear, pastIn, inputs, pastAfter, runAfter, rowsAfter, closedWith, accept, accepted}
+use Rattle.model.specs.Sound.{StateFits, Room}
 use Rattle.model.proofs.Laws.{skip}
-use Rattle.model.proofs.Keeps.{own, open-month, no-hours}
+use Rattle.model.proofs.Keeps.{call-passed, open-month, no-hours}
 
 -- what numbers 40 to 45 leave of a closing that is accepted
 pub record Settled (r : Record) (store marks buffer : List ℕ) : Type 0 where
   pub long : length marks ≡ openHours (r .date)
   pub low : high marks ≡ false
-  pub calm : crowded marks (length marks / 24) ≡ false
+  pub notCrowded : crowded marks (length marks / 24) ≡ false
   pub matched : unmatched marks (length marks / 24) ≡ false
   pub room : length buffer ≡ 744
   pub fits : storeFits store ≡ true
@@ -47,7 +47,7 @@ pub record Settled (r : Record) (store marks buffer : List ℕ) : Type 0 where
 pub settled : (s : State) (marks buffer : List ℕ) → accepted s (closing marks buffer) ≡ true → Settled (s .point) (s .store) marks buffer
 unfolding ownRefusal
 settled s marks buffer t =
-    let a = skip (lit< tt) (own s (closing marks buffer) t .on) in
+    let a = skip (lit< tt) (call-passed s (closing marks buffer) t .own) in
     let b = skip (lit< tt) (a .1) in
     let d = skip (lit< tt) (b .1) in
     let e = skip (lit< tt) (d .1) in
@@ -56,7 +56,7 @@ settled s marks buffer t =
     record {
       long = eqb-true _ _ (not-false _ (a .0));
       low = b .0;
-      calm = d .0;
+      notCrowded = d .0;
       matched = e .0;
       room = eqb-true _ _ (not-false _ (f .0));
       fits = not-false _ (g .0);
@@ -80,33 +80,33 @@ row-hours store r t words fits low high l = record {
 -- the volume of a reading is within its limit
 volume-most : (d : Date) (g : Reading) (has w : Bool) → allOf (readingTests g has w (volumeLimit d)) ≡ true → g .volume .0 ≤ openHours d * 1000000
 unfolding volumeLimit
-volume-most d g has w h = leb-true _ _ (each (readingTests g has w (openHours d * 1000000)) h .1 .1 .1 .0)
+volume-most d g has w h = leb-true _ _ (each-test (readingTests g has w (openHours d * 1000000)) h .1 .1 .1 .0)
 
 -- a cable on basis 3
 cable-there : (c : Contract) → allOf (contractTests c) ≡ true → eqb (c .basis) 3 ≡ true → cableFits (c .cable) ≡ true
-cable-there c h t = rw t at (each (contractTests c) h .1 .1 .1 .1 .0)
+cable-there c h t = rw t at (each-test (contractTests c) h .1 .1 .1 .1 .0)
 
 past-small : (s : State) → storeFits (s .store) ≡ true → PastHoursFit (pastIn s)
 unfolding pastIn
 past-small s f =
-    by-cases (eqb (at (s .point .past .years) (slot (s .point .date))) (s .point .date .year - 1))
-    (λ y. rw y (row-part-fits (slot (lastYear (s .point .date))) (openHours (lastYear (s .point .date))) (s .store) f))
+    by-cases (eqb (at (s .point .past .years) (rowOf (s .point .date))) (s .point .date .year - 1))
+    (λ y. rw y (row-part-fits (rowOf (lastYear (s .point .date))) (openHours (lastYear (s .point .date))) (s .store) f))
     (λ n.
     rw n
     (by-cases (eqb (s .point .past .latest) 0)
     (λ y. rw y tt)
-    (λ m. rw m (row-part-fits (slot (dateOf (s .point .past .latest))) (openHours (dateOf (s .point .past .latest))) (s .store) f))))
+    (λ m. rw m (row-part-fits (rowOf (dateOf (s .point .past .latest))) (openHours (dateOf (s .point .past .latest))) (s .store) f))))
 
 -- the inputs of an accepted closing are those of which the rules are right
-pub inputs-sane : (s : State) (marks buffer : List ℕ) → accepted s (closing marks buffer) ≡ true → Sane (inputs s marks)
+pub inputs-fit : (s : State) (marks buffer : List ℕ) → accepted s (closing marks buffer) ≡ true → InputsFit (inputs s marks)
 unfolding inputs
-inputs-sane s marks buffer t =
+inputs-fit s marks buffer t =
     let r = s .point in
-    let o = own s (closing marks buffer) t in
+    let o = call-passed s (closing marks buffer) t in
     let q = settled s marks buffer t in
     let v = valid-parts r (o .sound) in
     let g = readings-parts (r .readings) (r .contract) (volumeLimit (r .date)) (v .readings) in
-    let m = open-month r (o .sound) (o .goes) in
+    let m = open-month r (o .sound) (o .notOver) in
     let e = month-hours (r .date) m in
     let short : openHours (r .date) ≤ 744 = omega (arith, e, days-high (r .date)) in
     let whole : length marks / 24 ≡ monthDays (r .date) = omega (arith, e, q .long) in
@@ -116,8 +116,8 @@ inputs-sane s marks buffer t =
       some = omega (arith, days-low (r .date) m);
       few = days-high (r .date);
       marks = q .long;
-      calm = rw whole at (q .calm);
-      power = leb-true _ _ (each (contractTests (r .contract)) (v .contract) .1 .1 .1 .0);
+      notCrowded = rw whole at (q .notCrowded);
+      power = leb-true _ _ (each-test (contractTests (r .contract)) (v .contract) .1 .1 .1 .0);
       cable = cable-there (r .contract) (v .contract);
       billing = measured _ _ _ _ (row-hours (s .store) 12 (openHours (r .date)) (o .size) (q .fits) (lit≤ tt) (lit≤ tt) short) (volume-most (r .date) (r .readings .billing) true _ (g .billing));
       control = measured _ _ _ _ (row-hours (s .store) 13 (openHours (r .date)) (o .size) (q .fits) (lit≤ tt) (lit≤ tt) short) (volume-most (r .date) (r .readings .control) (not (eqb (r .contract .control) 0)) _ (g .control));
@@ -126,8 +126,8 @@ inputs-sane s marks buffer t =
 
 -- THE RECORD AFTER IT
 -- the row of a calendar month is one of the first 12
-pub slot-row : (d : Date) → isMonth d ≡ true → slot d ≤ 11
-slot-row d m = let l = limits d m in omega arith
+pub row-few : (d : Date) → isMonth d ≡ true → rowOf d ≤ 11
+row-few d m = let l = limits d m in omega arith
 
 -- a row's year that fits still fits in the month after
 year-grows : (years : List ℕ) (d e : Date) (k : ℕ) → monthNumber d ≤ monthNumber e → yearFits years d k ≡ true → yearFits years e k ≡ true
@@ -140,7 +140,7 @@ year-grows years d e k l h =
     rw (f, p .0) (lt-ltb n (monthNumber e) (omega (arith, ltb-true n (monthNumber d) (p .1)))))
 
 -- the closed month's year fits its row in the month after
-year-closed : (years : List ℕ) (d : Date) (k : ℕ) → isMonth d ≡ true → k ≡ slot d → at years k ≡ d .year → yearFits years (nextMonth d) k ≡ true
+year-closed : (years : List ℕ) (d : Date) (k : ℕ) → isMonth d ≡ true → k ≡ rowOf d → at years k ≡ d .year → yearFits years (nextMonth d) k ≡ true
 unfolding monthNumber
 year-closed years d k m e y =
     let l = limits d m in
@@ -155,7 +155,7 @@ latest-closed d m =
     rw (ne-eqb (monthNumber d) 0 (λ z. omega (arith, l .0)), le-leb 24169 (monthNumber d) (l .0), le-leb (monthNumber d) 36000 (l .1))
     (lt-ltb (monthNumber d) (monthNumber (nextMonth d)) (omega (arith, number-next d m)))
 
-row-closed : (years : List ℕ) (d : Date) → isMonth d ≡ true → at years (slot d) ≡ d .year
+row-closed : (years : List ℕ) (d : Date) → isMonth d ≡ true → at years (rowOf d) ≡ d .year
     → eqb (monthNumber d) 0 || eqb (at years (placeOf (monthNumber d))) (yearOf (monthNumber d)) ≡ true
 unfolding monthNumber
 row-closed years d m there =
@@ -167,15 +167,15 @@ row-closed years d m there =
 -- rows and latest past after a closing on ground 1 or 2
 past-kept : (p : Past) (d : Date) → isMonth d ≡ true → length (p .years) ≡ 12 → PastFits p d → PastFits (pastAfter true p d) (nextMonth d)
 past-kept p d m twelve f =
-    let after : List ℕ = set (p .years) (slot d) (d .year) in
-    let there = getD-set-same (p .years) (slot d) (d .year) 0 (omega (arith, slot-row d m)) in
+    let after : List ℕ = set (p .years) (rowOf d) (d .year) in
+    let there = getD-set-same (p .years) (rowOf d) (d .year) 0 (omega (arith, row-few d m)) in
     record {
       years =
           all-from (yearFits after (nextMonth d)) 12 λ k below.
-          by-cases (eqb k (slot d))
-          (λ t. let e = eqb-true k (slot d) t in year-closed after d k m e (rw e there))
+          by-cases (eqb k (rowOf d))
+          (λ t. let e = eqb-true k (rowOf d) t in year-closed after d k m e (rw e there))
           (λ g.
-          let other = getD-set-other (p .years) (slot d) k (d .year) 0 (eqb-false k (slot d) g) in
+          let other = getD-set-other (p .years) (rowOf d) k (d .year) 0 (eqb-false k (rowOf d) g) in
           rw other (year-grows (p .years) d (nextMonth d) k (omega (arith, number-next d m)) (all-at (yearFits (p .years) d) 12 k (f .years) below)));
       latest = latest-closed d m;
       row = row-closed after d m there;
@@ -214,22 +214,22 @@ filed row hs store l short n f = record {
 }
 
 -- A POINT GOES ON with a closing that has room
-pub closes : (s : State) (marks buffer : List ℕ) → Fits s → accepted s (closing marks buffer) ≡ true → Room s (rules (inputs s marks)) → Fits (accept s (closing marks buffer))
+pub closing-fits : (s : State) (marks buffer : List ℕ) → StateFits s → accepted s (closing marks buffer) ≡ true → Room s (rules (inputs s marks)) → StateFits (accept s (closing marks buffer))
 unfolding accept closedWith
-closes s marks buffer f t room =
+closing-fits s marks buffer f t room =
     let r = s .point in
     let d = r .date in
-    let o = own s (closing marks buffer) t in
+    let o = call-passed s (closing marks buffer) t in
     let v = valid-parts r (f .record-fits) in
     let h = service-parts (r .service) d (v .service) in
-    let m = open-month r (f .record-fits) (o .goes) in
-    let sane = inputs-sane s marks buffer t in
-    let right = rules-right (inputs s marks) sane in
+    let m = open-month r (f .record-fits) (o .notOver) in
+    let fit = inputs-fit s marks buffer t in
+    let right = rules-right (inputs s marks) fit in
     let u = rules (inputs s marks) in
     let old : Stored (s .store) = record { words = f .words; fits = f .store-fits } in
     let store : Stored (rowsAfter (becomesPast u) (u .hours) d (s .store)) =
     by-cases (becomesPast u)
-    (λ y. rw y (filed (slot d) (u .hours) (s .store) (slot-row d m) (omega (arith, right .long, month-hours d m, days-high d)) (right .small y) old))
+    (λ y. rw y (filed (rowOf d) (u .hours) (s .store) (row-few d m) (omega (arith, right .long, month-hours d m, days-high d)) (right .small y) old))
     (λ n. rw n old) in
     let both-clear = cleared 13 _ (lit≤ tt) (lit≤ tt) (cleared 12 _ (lit≤ tt) (lit≤ tt) store) in
     record {
@@ -256,7 +256,7 @@ closes s marks buffer f t room =
             readings = none-fit (r .contract) (volumeLimit (nextMonth d));
             total = le-leb _ _ (room .total);
           });
-      twelve = by-cases (becomesPast u) (λ y. rw y (length-set (r .past .years) (slot d) (d .year) ∙ f .twelve)) (λ n. rw n (f .twelve));
+      twelve = by-cases (becomesPast u) (λ y. rw y (length-set (r .past .years) (rowOf d) (d .year) ∙ f .twelve)) (λ n. rw n (f .twelve));
       words = both-clear .words;
       store-fits = both-clear .fits;
     }

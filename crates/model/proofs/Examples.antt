@@ -18,12 +18,12 @@ use Rattle.record.specs.declared.Service.{Service}
 use Rattle.record.specs.Record.{givenAs, noReadings, zeroRecord, freshRecord, freshService, withDate, withService, withReadings, withPast}
 use Rattle.record.specs.Record.{withServing, withDenials, withBilling, withControl, withFirst, withSecond}
 use Rattle.validity.specs.Valid.{volumeLimit, valid}
-use Rattle.rows.specs.Store.{putRow, storeFits}
+use Rattle.store.specs.Store.{putRow, storeFits}
 use Rattle.rules.specs.Calls.{Opening, Call, billingHours, controlHours, billingVolume, controlVolume, neighbour, failure, admission}
 use Rattle.rules.specs.Calls.{denial, permission, closing}
-use Rattle.rules.specs.Rules.{none, some, becomesPast}
-use Rattle.model.specs.Refusals.{refuse, anyone, ownRefusal, openRefusal}
-use Rattle.model.specs.Model.{State, state, isRepeat, afterFailure, pastIn, closedWith, accept}
+use Rattle.rules.specs.Rules.{noPastHours, pastHours, becomesPast}
+use Rattle.model.specs.Refusals.{refuse, refuseAnyone, ownRefusal, openRefusal}
+use Rattle.model.specs.Model.{State, state, faultWithinYear, afterFailure, pastIn, closedWith, accept}
 
 unfoldable pub judging : Unit {0}
 unfolding refuse ownRefusal openRefusal valid volumeLimit noneAbove storeFits isMonth monthDays monthHours openHours leapYear monthNumber
@@ -45,10 +45,10 @@ served r s = withService r s
 
 -- ANYONE: 1 before 2 before 3 before the call's own
 any-number :
-    (anyone 10415 zeroRecord 20 ≡ 1) × (anyone 10417 (point 1 2) 20 ≡ 1) × (anyone 10416 zeroRecord 20 ≡ 2)
-    × (anyone 10416 (withDate (point 1 2) (on 3000 2)) 20 ≡ 2)
-    × (anyone 10416 (withDate (point 1 2) (on 3000 1)) 20 ≡ 3) × (anyone 10416 (withDate (point 1 2) (on 2999 12)) 20 ≡ 20)
-    × (anyone 10416 (point 1 2) 0 ≡ 0)
+    (refuseAnyone 10415 zeroRecord 20 ≡ 1) × (refuseAnyone 10417 (point 1 2) 20 ≡ 1) × (refuseAnyone 10416 zeroRecord 20 ≡ 2)
+    × (refuseAnyone 10416 (withDate (point 1 2) (on 3000 2)) 20 ≡ 2)
+    × (refuseAnyone 10416 (withDate (point 1 2) (on 3000 1)) 20 ≡ 3) × (refuseAnyone 10416 (withDate (point 1 2) (on 2999 12)) 20 ≡ 20)
+    × (refuseAnyone 10416 (point 1 2) 0 ≡ 0)
 unfolding judging
 any-number = (refl, refl, refl, refl, refl, refl, refl)
 
@@ -166,7 +166,7 @@ settlement = (refl, refl, refl, refl)
 
 -- FAULTS: at most 12 months back, and the same month
 repeats :
-    (isRepeat 24277 24289 ≡ true) × (isRepeat 24277 24290 ≡ false) × (isRepeat 24277 24277 ≡ true) × (isRepeat 0 24277 ≡ false)
+    (faultWithinYear 24277 24289 ≡ true) × (faultWithinYear 24277 24290 ≡ false) × (faultWithinYear 24277 24277 ≡ true) × (faultWithinYear 0 24277 ≡ false)
 repeats = (refl, refl, refl, refl)
 
 abbrev faulted : ℕ → Service
@@ -231,10 +231,10 @@ abbrev filled : Date → List ℕ → ℕ → State
 filled d years latest = state (withPast (withDate (point 1 2) d) (record { years = years; latest = latest })) (replicate 744 1 ++ replicate 744 2)
 
 pasts :
-    (pastIn (filled (on 2014 1) (zeros 12) 0) ≡ none) × (pastIn (filled (on 2025 2) (set (zeros 12) 1 2023) 0) ≡ none)
-    × (pastIn (filled (on 2025 2) (set (zeros 12) 1 2023) 24278) ≡ some (replicate 672 2))
-    × (pastIn (filled (on 2025 2) (set (set (zeros 12) 1 2024) 0 2025) 24301) ≡ some (replicate 696 2))
-    × (pastIn (filled (on 2025 2) (set (zeros 12) 0 2025) 24301) ≡ some (replicate 744 1))
+    (pastIn (filled (on 2014 1) (zeros 12) 0) ≡ noPastHours) × (pastIn (filled (on 2025 2) (set (zeros 12) 1 2023) 0) ≡ noPastHours)
+    × (pastIn (filled (on 2025 2) (set (zeros 12) 1 2023) 24278) ≡ pastHours (replicate 672 2))
+    × (pastIn (filled (on 2025 2) (set (set (zeros 12) 1 2024) 0 2025) 24301) ≡ pastHours (replicate 696 2))
+    × (pastIn (filled (on 2025 2) (set (zeros 12) 0 2025) 24301) ≡ pastHours (replicate 744 1))
 unfolding judging
 pasts = (refl, refl, refl, refl, refl)
 

@@ -20,19 +20,19 @@ use Rattle.record.specs.Record.{noPast, freshService}
 use Rattle.validity.specs.Valid.{allOf, contractTests, volumeLimit}
 use Rattle.validity.proofs.Laws.{all, valid-from, service-from, past-from, none-fit}
 use Rattle.record.specs.declared.Record.{Record}
-use Rattle.rows.specs.Store.{storeFits}
-use Rattle.rows.proofs.Laws.{fits-empty}
+use Rattle.store.specs.Store.{storeFits}
+use Rattle.store.proofs.Laws.{fits-empty}
 use Rattle.rules.specs.Calls.{Opening, Call, billingHours, controlHours, billingVolume, controlVolume, neighbour, failure, admission, denial, permission, closing, isClosing, isFault}
 use Rattle.rules.specs.Rules.{rules, becomesPast}
 use Rattle.rules.proofs.Laws.{rules-right}
-use Rattle.model.specs.Refusals.{refuse, readers, closingNumber, ownRefusal, openRefusal}
+use Rattle.model.specs.Refusals.{refuse, refuseReading, closingNumber, ownRefusal, openRefusal}
 use Rattle.model.specs.declared.Answer.{Answer}
-use Rattle.model.specs.Model.{State, isRepeat, inputs, closedWith, accept, accepted, state, refusal, leaves, answer, Does}
+use Rattle.model.specs.Model.{State, faultWithinYear, inputs, closedWith, accept, accepted, state, refusal, leaves, answer, Does}
 use Rattle.model.specs.Opening.{opens, opened, openLeaves, openAnswer, Opens}
-use Rattle.model.specs.Sound.{Room, Sound, Fits}
+use Rattle.model.specs.Sound.{Room, Sound, StateFits}
 use Rattle.model.proofs.Laws.{Allowed, allowed}
-use Rattle.model.proofs.Keeps.{own, open-month, keeps}
-use Rattle.model.proofs.Closes.{inputs-sane, closes}
+use Rattle.model.proofs.Keeps.{call-passed, open-month, keeps}
+use Rattle.model.proofs.Closes.{inputs-fit, closing-fits}
 
 -- one of the three bases
 basis-known : (k p : ℕ) (currents : List ℕ) (place : ℕ) (cable : Cable) → basisFits k p currents place cable ≡ true → isAgreed k || eqb k 3 ≡ true
@@ -105,7 +105,7 @@ stays s (neighbour source v) e = record { date = refl; run = omega arith; total 
 stays s (failure reason) e =
     record {
       date = refl;
-      run = cond-most (isFault reason && isRepeat (s .point .service .fault) (monthNumber (s .point .date))) zero-le (omega arith);
+      run = cond-most (isFault reason && faultWithinYear (s .point .service .fault) (monthNumber (s .point .date))) zero-le (omega arith);
       total = refl;
     }
 stays s admission e = record { date = refl; run = omega arith; total = refl }
@@ -130,16 +130,16 @@ unfolding accept closedWith
 at-closing s marks buffer sound t =
     let d = s .point .date in
     let u = rules (inputs s marks) in
-    let m = open-month (s .point) (sound .fits .record-fits) (own s (closing marks buffer) t .goes) in
+    let m = open-month (s .point) (sound .fits .record-fits) (call-passed s (closing marks buffer) t .notOver) in
     let n = number-next d m in
     let l = number-limits d m in
-    let right = rules-right (inputs s marks) (inputs-sane s marks buffer t) in
+    let right = rules-right (inputs s marks) (inputs-fit s marks buffer t) in
     let room : Room s u = record {
       run = omega (arith, sound .run, l .1);
       total = omega (arith, sound .total, l .1, right .most);
     } in
     record {
-      fits = closes s marks buffer (sound .fits) t room;
+      fits = closing-fits s marks buffer (sound .fits) t room;
       run = rw n (cond-most (becomesPast u) zero-le (omega (arith, sound .run, l .0)));
       total = rw n (omega (arith, sound .total, l .0, right .most));
     }
@@ -185,7 +185,7 @@ unfolding refuse
 among true number rest l m r = inr (l, m)
 among false number rest l m r = r
 
-readings-among : (t20 t21 t22 t23 t24 : Bool) → Among (readers t20 t21 t22 t23 t24)
+readings-among : (t20 t21 t22 t23 t24 : Bool) → Among (refuseReading t20 t21 t22 t23 t24)
 readings-among t20 t21 t22 t23 t24 =
     among t20 20 _ (lit≤ tt) (lit≤ tt)
     (among t21 21 _ (lit≤ tt) (lit≤ tt)
@@ -219,7 +219,7 @@ own-among r store denial f = one-among _ 33 (lit≤ tt) (lit≤ tt)
 own-among r store permission f = one-among _ 34 (lit≤ tt) (lit≤ tt)
 own-among r store (closing marks buffer) f = closing-among r store marks buffer f
 
-refusal-among : (s : State) (c : Call) → Fits s → Among (refusal s c)
+refusal-among : (s : State) (c : Call) → StateFits s → Among (refusal s c)
 unfolding refusal refuse
 refusal-among s c f =
     rw (eq-eqb (length (s .store)) 10416 (f .words), f .record-fits)

@@ -18,18 +18,18 @@ use Rattle.record.specs.declared.Record.{Record}
 use Rattle.record.specs.Record.{notGiven, givenAs, withService, withReadings, withServing, withDenials, withBilling, withControl, withFirst, withSecond}
 use Rattle.validity.specs.Valid.{volumeLimit, valid}
 use Rattle.validity.proofs.Laws.{Valid, valid-parts, valid-from, ServiceFits, service-parts, service-from, ReadingsFit, readings-parts, readings-from, missing-fits, hours-fit, volume-fits}
-use Rattle.rows.specs.Store.{asRow, putRow}
-use Rattle.rows.proofs.Laws.{length-row, length-put, put-fits-month}
+use Rattle.store.specs.Store.{asRow, putRow}
+use Rattle.store.proofs.Laws.{length-row, length-put, put-fits-month}
 use Rattle.rules.specs.Calls.{Call, billingHours, controlHours, billingVolume, controlVolume, neighbour, failure, admission, denial, permission, closing, isClosing, isFault}
 use Rattle.model.specs.Refusals.{ownRefusal}
-use Rattle.model.specs.Model.{State, state, discarded, isRepeat, afterFailure, oneDenial, accept, refusal, accepted}
-use Rattle.model.specs.Sound.{Fits}
-use Rattle.model.proofs.Laws.{skip, Passed, passed, read, month-most}
+use Rattle.model.specs.Model.{State, state, discarded, faultWithinYear, afterFailure, oneDenial, accept, refusal, accepted}
+use Rattle.model.specs.Sound.{StateFits}
+use Rattle.model.proofs.Laws.{skip, Passed, passed, reading-passed, month-most}
 
 -- what the acceptance of a call tells
-pub own : (s : State) (c : Call) → accepted s c ≡ true → Passed (length (s .store)) (s .point) (ownRefusal (s .point) (s .store) c)
+pub call-passed : (s : State) (c : Call) → accepted s c ≡ true → Passed (length (s .store)) (s .point) (ownRefusal (s .point) (s .store) c)
 unfolding accepted refusal
-own s c t = passed (eqb-true (refusal s c) 0 t)
+call-passed s c t = passed (eqb-true (refusal s c) 0 t)
 
 -- the open month is one that is calculated
 pub open-month : (r : Record) → valid r ≡ true → eqb (r .date .year) 3000 ≡ false → isMonth (r .date) ≡ true
@@ -70,8 +70,8 @@ old-service : (r : Record) → Valid r → ServiceFits (r .service) (r .date)
 old-service r v = service-parts (r .service) (r .date) (v .service)
 
 -- hours written into row 12 or 13
-written : (s : State) (r : Record) (row : ℕ) (hs : List ℕ) → Fits s → valid r ≡ true → length (r .past .years) ≡ 12 → 12 ≤ row → row ≤ 13
-    → length hs ≤ 744 → noneAbove 1000000 hs ≡ true → Fits (state r (putRow row (asRow hs) (s .store)))
+written : (s : State) (r : Record) (row : ℕ) (hs : List ℕ) → StateFits s → valid r ≡ true → length (r .past .years) ≡ 12 → 12 ≤ row → row ≤ 13
+    → length hs ≤ 744 → noneAbove 1000000 hs ≡ true → StateFits (state r (putRow row (asRow hs) (s .store)))
 written s r row hs f v y low high l n = record {
   record-fits = v;
   twelve = y;
@@ -80,16 +80,16 @@ written s r row hs f v y low high l n = record {
 }
 
 -- the store as it was
-kept : (s : State) (r : Record) → Fits s → valid r ≡ true → length (r .past .years) ≡ 12 → Fits (state r (s .store))
-kept s r f v y = record { record-fits = v; twelve = y; words = f .words; store-fits = f .store-fits }
+record-kept : (s : State) (r : Record) → StateFits s → valid r ≡ true → length (r .past .years) ≡ 12 → StateFits (state r (s .store))
+record-kept s r f v y = record { record-fits = v; twelve = y; words = f .words; store-fits = f .store-fits }
 
 pub no-hours : noneAbove 1000000 [] ≡ true
 unfolding noneAbove
 no-hours = refl
 
 -- a discarded reading
-discards : (s : State) → Fits s → Fits (discarded s)
-discards s f =
+discarded-fits : (s : State) → StateFits s → StateFits (discarded s)
+discarded-fits s f =
     let r = s .point in
     let v = valid-parts r (f .record-fits) in
     let g = old-readings r v in
@@ -98,12 +98,12 @@ discards s f =
     (record { billing = missing-fits true (eqb (r .contract .billing) 2) (volumeLimit (r .date)); control = g .control; first = g .first; second = g .second }))
     (f .twelve) (lit≤ tt) (lit≤ tt) (lit≤ tt) no-hours
 
-keep-billing-hours : (s : State) (hs : List ℕ) → Fits s → accepted s (billingHours hs) ≡ true → Fits (accept s (billingHours hs))
+keep-billing-hours : (s : State) (hs : List ℕ) → StateFits s → accepted s (billingHours hs) ≡ true → StateFits (accept s (billingHours hs))
 unfolding ownRefusal accept
 keep-billing-hours s hs f t =
     let r = s .point in
-    let o = own s (billingHours hs) t in
-    let q = read (o .on) in
+    let o = call-passed s (billingHours hs) t in
+    let q = reading-passed (o .own) in
     let v = valid-parts r (f .record-fits) in
     let g = old-readings r v in
     written s _ 12 hs f
@@ -118,12 +118,12 @@ control-there k n e l =
     (λ t. absurd (omega (arith, eqb-true k 0 t, eqb-true k n (not-false _ e))))
     (λ f. rw f)
 
-keep-control-hours : (s : State) (hs : List ℕ) → Fits s → accepted s (controlHours hs) ≡ true → Fits (accept s (controlHours hs))
+keep-control-hours : (s : State) (hs : List ℕ) → StateFits s → accepted s (controlHours hs) ≡ true → StateFits (accept s (controlHours hs))
 unfolding ownRefusal accept
 keep-control-hours s hs f t =
     let r = s .point in
-    let o = own s (controlHours hs) t in
-    let q = read (o .on) in
+    let o = call-passed s (controlHours hs) t in
+    let q = reading-passed (o .own) in
     let v = valid-parts r (f .record-fits) in
     let g = old-readings r v in
     written s _ 13 hs f
@@ -136,14 +136,14 @@ keep-control-hours s hs f t =
     }))
     (f .twelve) (lit≤ tt) (lit≤ tt) (month-most r hs (f .record-fits) (q .long)) (not-false _ (q .small))
 
-keep-billing-volume : (s : State) (v : ℕ) → Fits s → accepted s (billingVolume v) ≡ true → Fits (accept s (billingVolume v))
+keep-billing-volume : (s : State) (v : ℕ) → StateFits s → accepted s (billingVolume v) ≡ true → StateFits (accept s (billingVolume v))
 unfolding ownRefusal accept
 keep-billing-volume s v f t =
     let r = s .point in
-    let q = read (own s (billingVolume v) t .on) in
+    let q = reading-passed (call-passed s (billingVolume v) t .own) in
     let p = valid-parts r (f .record-fits) in
     let g = old-readings r p in
-    kept s _ f
+    record-kept s _ f
     (with-readings r (withBilling (r .readings) (givenAs v)) p
     (record {
       billing = rw (not-false (eqb (r .contract .billing) 2) (q .meter)) (volume-fits v (volumeLimit (r .date)) (ltb-false _ v (q .small)));
@@ -153,14 +153,14 @@ keep-billing-volume s v f t =
     }))
     (f .twelve)
 
-keep-control-volume : (s : State) (v : ℕ) → Fits s → accepted s (controlVolume v) ≡ true → Fits (accept s (controlVolume v))
+keep-control-volume : (s : State) (v : ℕ) → StateFits s → accepted s (controlVolume v) ≡ true → StateFits (accept s (controlVolume v))
 unfolding ownRefusal accept
 keep-control-volume s v f t =
     let r = s .point in
-    let q = read (own s (controlVolume v) t .on) in
+    let q = reading-passed (call-passed s (controlVolume v) t .own) in
     let p = valid-parts r (f .record-fits) in
     let g = old-readings r p in
-    kept s _ f
+    record-kept s _ f
     (with-readings r (withControl (r .readings) (givenAs v)) p
     (record {
       billing = g .billing;
@@ -172,23 +172,23 @@ keep-control-volume s v f t =
     }))
     (f .twelve)
 
-keep-neighbour : (s : State) (source v : ℕ) → Fits s → accepted s (neighbour source v) ≡ true → Fits (accept s (neighbour source v))
+keep-neighbour : (s : State) (source v : ℕ) → StateFits s → accepted s (neighbour source v) ≡ true → StateFits (accept s (neighbour source v))
 unfolding ownRefusal accept
 keep-neighbour s source v f t =
     let r = s .point in
-    let q = read (own s (neighbour source v) t .on) in
+    let q = reading-passed (call-passed s (neighbour source v) t .own) in
     let p = valid-parts r (f .record-fits) in
     let g = old-readings r p in
     let fits = volume-fits v (volumeLimit (r .date)) (ltb-false _ v (q .small)) in
     by-cases (eqb source 1)
     (λ y.
     rw y
-    (kept s _ f
+    (record-kept s _ f
     (with-readings r (withFirst (r .readings) (givenAs v)) p (record { billing = g .billing; control = g .control; first = fits; second = g .second }))
     (f .twelve)))
     (λ n.
     rw n
-    (kept s _ f
+    (record-kept s _ f
     (with-readings r (withSecond (r .readings) (givenAs v)) p (record { billing = g .billing; control = g .control; first = g .first; second = fits }))
     (f .twelve)))
 
@@ -203,19 +203,19 @@ choice : {A : Type 0} (P : A → Type 0) (b : Bool) {x y : A} → P x → P y �
 choice P true p q = p
 choice P false p q = q
 
-keep-failure : (s : State) (reason : ℕ) → Fits s → accepted s (failure reason) ≡ true → Fits (accept s (failure reason))
+keep-failure : (s : State) (reason : ℕ) → StateFits s → accepted s (failure reason) ≡ true → StateFits (accept s (failure reason))
 unfolding accept
 keep-failure s reason f t =
     let r = s .point in
-    let o = own s (failure reason) t in
+    let o = call-passed s (failure reason) t in
     let v = valid-parts r (f .record-fits) in
     let h = old-service r v in
-    let m = open-month r (o .sound) (o .goes) in
-    discards _
-    (kept s _ f
+    let m = open-month r (o .sound) (o .notOver) in
+    discarded-fits _
+    (record-kept s _ f
     (with-service r (afterFailure (r .service) (r .date) reason) v
     (record {
-      run = cond-most (isFault reason && isRepeat (r .service .fault) (monthNumber (r .date))) (lit≤ tt) (h .run);
+      run = cond-most (isFault reason && faultWithinYear (r .service .fault) (monthNumber (r .date))) (lit≤ tt) (h .run);
       serving = lit≤ tt;
       denials = h .denials;
       month = choice (λ (n : ℕ). eqb n 0 || isMonthNumber n ≡ true) (isFault reason) (month-number (r .date) m) (h .month);
@@ -223,25 +223,25 @@ keep-failure s reason f t =
     }))
     (f .twelve))
 
-keep-admission : (s : State) → Fits s → accepted s admission ≡ true → Fits (accept s admission)
+keep-admission : (s : State) → StateFits s → accepted s admission ≡ true → StateFits (accept s admission)
 unfolding accept
 keep-admission s f t =
     let r = s .point in
     let v = valid-parts r (f .record-fits) in
     let h = old-service r v in
-    kept s _ f
+    record-kept s _ f
     (with-service r (withServing (r .service) 1) v (record { run = h .run; serving = lit≤ tt; denials = h .denials; month = h .month; before = h .before }))
     (f .twelve)
 
-keep-denial : (s : State) → Fits s → accepted s denial ≡ true → Fits (accept s denial)
+keep-denial : (s : State) → StateFits s → accepted s denial ≡ true → StateFits (accept s denial)
 unfolding ownRefusal accept
 keep-denial s f t =
     let r = s .point in
-    let q = skip (lit< tt) (own s denial t .on) .0 in
+    let q = skip (lit< tt) (call-passed s denial t .own) .0 in
     let v = valid-parts r (f .record-fits) in
     let h = old-service r v in
-    let one : Fits (oneDenial s) =
-    kept s _ f
+    let one : StateFits (oneDenial s) =
+    record-kept s _ f
     (with-service r (withDenials (r .service) (r .service .denials + 1)) v
     (record {
       run = h .run;
@@ -251,20 +251,20 @@ keep-denial s f t =
       before = h .before;
     }))
     (f .twelve) in
-    choice Fits (eqb (r .service .denials) 1) (discards (oneDenial s) one) one
+    choice StateFits (eqb (r .service .denials) 1) (discarded-fits (oneDenial s) one) one
 
-keep-permission : (s : State) → Fits s → accepted s permission ≡ true → Fits (accept s permission)
+keep-permission : (s : State) → StateFits s → accepted s permission ≡ true → StateFits (accept s permission)
 unfolding accept
 keep-permission s f t =
     let r = s .point in
     let v = valid-parts r (f .record-fits) in
     let h = old-service r v in
-    kept s _ f
+    record-kept s _ f
     (with-service r (withDenials (r .service) 0) v (record { run = h .run; serving = h .serving; denials = lit≤ tt; month = h .month; before = h .before }))
     (f .twelve)
 
 -- A POINT GOES ON, while the month is not closed
-pub keeps : (s : State) (c : Call) → isClosing c ≡ false → Fits s → accepted s c ≡ true → Fits (accept s c)
+pub keeps : (s : State) (c : Call) → isClosing c ≡ false → StateFits s → accepted s c ≡ true → StateFits (accept s c)
 unfolding isClosing
 keeps s (billingHours hs) e f t = keep-billing-hours s hs f t
 keeps s (controlHours hs) e f t = keep-control-hours s hs f t

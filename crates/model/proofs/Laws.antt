@@ -21,8 +21,8 @@ use Rattle.validity.proofs.Laws.{valid-parts}
 use Rattle.rules.specs.Calls.{Opening, Call, bufferOf}
 use Rattle.rules.specs.Rules.{noFigures}
 use Rattle.model.specs.declared.Answer.{Answer}
-use Rattle.model.specs.Refusals.{refuse, anyone, readers, notMonth, openRefusal}
-use Rattle.model.specs.Model.{State, accept, refusal, accepted, leaves, quiet, figuresOf, hoursOut, answer, bufferAfter, Does}
+use Rattle.model.specs.Refusals.{refuse, refuseAnyone, refuseReading, notMonth, openRefusal}
+use Rattle.model.specs.Model.{State, accept, refusal, accepted, leaves, withoutFigures, figuresOf, hoursOut, answer, bufferAfter, Does}
 use Rattle.model.specs.Opening.{opens, opened, openLeaves, openAnswer, Opens}
 
 -- no number: the test did not apply, and the rest of the list gives none either
@@ -35,26 +35,26 @@ skip {test = false} l e = (refl, e)
 pub record Passed (words : ℕ) (r : Record) (rest : ℕ) : Type 0 where
   pub size : words ≡ 10416
   pub sound : valid r ≡ true
-  pub goes : eqb (r .date .year) 3000 ≡ false
-  pub on : rest ≡ 0
+  pub notOver : eqb (r .date .year) 3000 ≡ false
+  pub own : rest ≡ 0
 
-pub passed : {words : ℕ} {r : Record} {rest : ℕ} → anyone words r rest ≡ 0 → Passed words r rest
+pub passed : {words : ℕ} {r : Record} {rest : ℕ} → refuseAnyone words r rest ≡ 0 → Passed words r rest
 passed h =
     let a = skip (lit< tt) h in
     let b = skip (lit< tt) (a .1) in
     let d = skip (lit< tt) (b .1) in
-    record { size = eqb-true _ _ (not-false _ (a .0)); sound = not-false _ (b .0); goes = d .0; on = d .1 }
+    record { size = eqb-true _ _ (not-false _ (a .0)); sound = not-false _ (b .0); notOver = d .0; own = d .1 }
 
 -- what numbers 20 to 24 leave of a reading that is accepted
-pub record Read (t20 t21 t22 t23 t24 : Bool) : Type 0 where
+pub record ReadingPassed (t20 t21 t22 t23 t24 : Bool) : Type 0 where
   pub meter : t20 ≡ false
   pub free : t21 ≡ false
   pub first : t22 ≡ false
   pub long : t23 ≡ false
   pub small : t24 ≡ false
 
-pub read : {t20 t21 t22 t23 t24 : Bool} → readers t20 t21 t22 t23 t24 ≡ 0 → Read t20 t21 t22 t23 t24
-read h =
+pub reading-passed : {t20 t21 t22 t23 t24 : Bool} → refuseReading t20 t21 t22 t23 t24 ≡ 0 → ReadingPassed t20 t21 t22 t23 t24
+reading-passed h =
     let a = skip (lit< tt) h in
     let b = skip (lit< tt) (a .1) in
     let d = skip (lit< tt) (b .1) in
@@ -67,7 +67,7 @@ month-most r hs v f =
     omega (arith, eqb-true (length hs) (openHours (r .date)) (not-false _ f), open-high (r .date) (valid-parts r v .month))
 
 -- a call that is refused, with a number that is not 0
-pub refused : (s : State) (c : Call) {number : ℕ} {a : Answer} → number ≡ refusal s c → number ≢ 0 → a ≡ quiet number (s .point) → Does s c a (s .store) (bufferOf c)
+pub refused : (s : State) (c : Call) {number : ℕ} {a : Answer} → number ≡ refusal s c → number ≢ 0 → a ≡ withoutFigures number (s .point) → Does s c a (s .store) (bufferOf c)
 unfolding answer leaves bufferAfter accepted
 refused s c {number} e n q =
     let f : eqb (refusal s c) 0 ≡ false = rw e at (ne-eqb number 0 n) in
@@ -75,7 +75,7 @@ refused s c {number} e n q =
 
 -- a call that is accepted, and has no hour buffer
 pub done : (s : State) (c : Call) {number : ℕ} {a : Answer} {after : List ℕ}
-    → number ≡ refusal s c → number ≡ 0 → figuresOf s c ≡ noFigures → hoursOut s c ≡ [] → a ≡ quiet 0 (accept s c .point) → after ≡ accept s c .store
+    → number ≡ refusal s c → number ≡ 0 → figuresOf s c ≡ noFigures → hoursOut s c ≡ [] → a ≡ withoutFigures 0 (accept s c .point) → after ≡ accept s c .store
     → Does s c a after []
 unfolding answer leaves bufferAfter accepted
 done s c {number} e z f h q l =
@@ -128,7 +128,7 @@ allowed o h =
     }
 
 -- an opening that is refused, and one that is accepted
-pub not-opened : (o : Opening) (store : List ℕ) {number : ℕ} {a : Answer} → number ≡ openRefusal (length store) o → number ≢ 0 → a ≡ quiet number zeroRecord
+pub not-opened : (o : Opening) (store : List ℕ) {number : ℕ} {a : Answer} → number ≡ openRefusal (length store) o → number ≢ 0 → a ≡ withoutFigures number zeroRecord
     → Opens o store a store
 unfolding opens openLeaves openAnswer
 not-opened o store {number} e n q =
@@ -136,7 +136,7 @@ not-opened o store {number} e n q =
     record { answered = q ∙ rw (f, e); left = rw f }
 
 pub now-opened : (o : Opening) (store : List ℕ) {number : ℕ} {a : Answer} {after : List ℕ}
-    → number ≡ openRefusal (length store) o → number ≡ 0 → a ≡ quiet 0 (opened o .point) → after ≡ opened o .store → Opens o store a after
+    → number ≡ openRefusal (length store) o → number ≡ 0 → a ≡ withoutFigures 0 (opened o .point) → after ≡ opened o .store → Opens o store a after
 unfolding opens openLeaves openAnswer
 now-opened o store e z q l =
     let n : openRefusal (length store) o ≡ 0 = sym e ∙ z in

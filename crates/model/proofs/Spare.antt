@@ -14,18 +14,18 @@ use Rattle.numbers.specs.Lists.{at}
 use Rattle.numbers.proofs.Laws.{by-cases, at-zeros}
 use Rattle.calendar.specs.Calendar.{isMonth, openHours}
 use Rattle.calendar.proofs.Laws.{limits, days-high, month-hours}
-use Rattle.rows.specs.Store.{asRow, withHours, withoutHours}
-use Rattle.rows.proofs.Laws.{at-row, length-row, length-put, at-put-before, at-put-in, at-put-after}
+use Rattle.store.specs.Store.{asRow, withHours, withoutHours}
+use Rattle.store.proofs.Laws.{at-row, length-row, length-put, at-put-before, at-put-in, at-put-after}
 use Rattle.rules.specs.Calls.{Opening, Call, billingHours, controlHours, billingVolume, controlVolume, neighbour, failure, admission, denial, permission, closing}
 use Rattle.rules.specs.Rules.{rules, becomesPast}
 use Rattle.rules.proofs.Laws.{rules-right}
 use Rattle.model.specs.Refusals.{ownRefusal}
-use Rattle.model.specs.Model.{State, discarded, oneDenial, slot, inputs, pastAfter, rowsAfter, closedWith, accept, accepted}
+use Rattle.model.specs.Model.{State, discarded, oneDenial, rowOf, inputs, pastAfter, rowsAfter, closedWith, accept, accepted}
 use Rattle.model.specs.Opening.{opened}
-use Rattle.model.specs.Sound.{Fits, ZeroFrom, monthUsed, Unused}
-use Rattle.model.proofs.Laws.{read, month-most}
-use Rattle.model.proofs.Keeps.{own, open-month}
-use Rattle.model.proofs.Closes.{slot-row, inputs-sane}
+use Rattle.model.specs.Sound.{StateFits, ZeroFrom, monthUsed, Unused}
+use Rattle.model.proofs.Laws.{reading-passed, month-most}
+use Rattle.model.proofs.Keeps.{call-passed, open-month}
+use Rattle.model.proofs.Closes.{row-few, inputs-fit}
 
 -- AN ACCEPTED OPENING
 pub opening-spare : (o : Opening) → Unused (opened o)
@@ -65,10 +65,10 @@ spare-discarded s w u =
       control = other-row 12 [] (s .store) w (lit≤ tt) (lit≤ tt) 13 _ (inr (lit< tt)) (u .control);
     }
 
-spare-billing-hours : (s : State) (hs : List ℕ) → Fits s → Unused s → accepted s (billingHours hs) ≡ true → Unused (accept s (billingHours hs))
+spare-billing-hours : (s : State) (hs : List ℕ) → StateFits s → Unused s → accepted s (billingHours hs) ≡ true → Unused (accept s (billingHours hs))
 unfolding ownRefusal accept
 spare-billing-hours s hs f u t =
-    let q = read (own s (billingHours hs) t .on) in
+    let q = reading-passed (call-passed s (billingHours hs) t .own) in
     let long = month-most (s .point) hs (f .record-fits) (q .long) in
     let e = eqb-true (length hs) (openHours (s .point .date)) (not-false _ (q .long)) in
     record {
@@ -77,10 +77,10 @@ spare-billing-hours s hs f u t =
       control = other-row 12 hs (s .store) (f .words) (lit≤ tt) long 13 _ (inr (lit< tt)) (u .control);
     }
 
-spare-control-hours : (s : State) (hs : List ℕ) → Fits s → Unused s → accepted s (controlHours hs) ≡ true → Unused (accept s (controlHours hs))
+spare-control-hours : (s : State) (hs : List ℕ) → StateFits s → Unused s → accepted s (controlHours hs) ≡ true → Unused (accept s (controlHours hs))
 unfolding ownRefusal accept
 spare-control-hours s hs f u t =
-    let q = read (own s (controlHours hs) t .on) in
+    let q = reading-passed (call-passed s (controlHours hs) t .own) in
     let long = month-most (s .point) hs (f .record-fits) (q .long) in
     let e = eqb-true (length hs) (openHours (s .point .date)) (not-false _ (q .long)) in
     record {
@@ -93,7 +93,7 @@ spare-control-hours s hs f u t =
 spare-billing-volume : (s : State) (v : ℕ) → Unused s → accepted s (billingVolume v) ≡ true → Unused (accept s (billingVolume v))
 unfolding ownRefusal accept
 spare-billing-volume s v u t =
-    let q = read (own s (billingVolume v) t .on) in
+    let q = reading-passed (call-passed s (billingVolume v) t .own) in
     record {
       months = u .months;
       billing = rw (eqb-true (s .point .contract .billing) 2 (not-false _ (q .meter))) (rw (q .first) at (u .billing));
@@ -103,7 +103,7 @@ spare-billing-volume s v u t =
 spare-control-volume : (s : State) (v : ℕ) → Unused s → accepted s (controlVolume v) ≡ true → Unused (accept s (controlVolume v))
 unfolding ownRefusal accept
 spare-control-volume s v u t =
-    let q = read (own s (controlVolume v) t .on) in
+    let q = reading-passed (call-passed s (controlVolume v) t .own) in
     record {
       months = u .months;
       billing = u .billing;
@@ -124,40 +124,40 @@ spare-served s t u a b c d e = record { months = rw (a, b) (u .months); billing 
 
 -- CLOSING
 -- the row of a calendar month, which is the closed month's or another's
-row-closed : (s : State) (hs : List ℕ) (k : ℕ) → Fits s → Unused s → isMonth (s .point .date) ≡ true → length hs ≡ openHours (s .point .date) → k < 12
-    → ZeroFrom (withHours (slot (s .point .date)) hs (s .store)) k (monthUsed (pastAfter true (s .point .past) (s .point .date) .years) k)
+row-closed : (s : State) (hs : List ℕ) (k : ℕ) → StateFits s → Unused s → isMonth (s .point .date) ≡ true → length hs ≡ openHours (s .point .date) → k < 12
+    → ZeroFrom (withHours (rowOf (s .point .date)) hs (s .store)) k (monthUsed (pastAfter true (s .point .past) (s .point .date) .years) k)
 row-closed s hs k f u m long below =
     let d = s .point .date in
     let l = limits d m in
     let years = s .point .past .years in
     let short : length hs ≤ 744 = omega (arith, long, month-hours d m, days-high d) in
-    let row : slot d ≤ 13 = omega (arith, slot-row d m) in
-    by-cases (eqb k (slot d))
+    let row : rowOf d ≤ 13 = omega (arith, row-few d m) in
+    by-cases (eqb k (rowOf d))
     (λ t.
-    let e = eqb-true k (slot d) t in
-    let year : at (set years (slot d) (d .year)) (slot d) ≡ d .year = getD-set-same years (slot d) (d .year) 0 (omega (arith, f .twelve, slot-row d m)) in
+    let e = eqb-true k (rowOf d) t in
+    let year : at (set years (rowOf d) (d .year)) (rowOf d) ≡ d .year = getD-set-same years (rowOf d) (d .year) 0 (omega (arith, f .twelve, row-few d m)) in
     let back : d .month - 1 + 1 ≡ d .month = omega arith in
-    rw (e, year, ne-eqb (d .year) 0 (λ z. omega arith), back) (own-row (slot d) hs (s .store) (f .words) row short (openHours d) (omega (arith, long))))
+    rw (e, year, ne-eqb (d .year) 0 (λ z. omega arith), back) (own-row (rowOf d) hs (s .store) (f .words) row short (openHours d) (omega (arith, long))))
     (λ g.
-    let other : (k < slot d) ⊎ (slot d < k) = elim (decLt k (slot d)) [
+    let other : (k < rowOf d) ⊎ (rowOf d < k) = elim (decLt k (rowOf d)) [
       | yes y ↦ inl y
-      | no n ↦ inr (omega (arith, eqb-false k (slot d) g))
+      | no n ↦ inr (omega (arith, eqb-false k (rowOf d) g))
     ] in
-    rw (getD-set-other years (slot d) k (d .year) 0 (eqb-false k (slot d) g))
-    (other-row (slot d) hs (s .store) (f .words) row short k (monthUsed years k) other (u .months k below)))
+    rw (getD-set-other years (rowOf d) k (d .year) 0 (eqb-false k (rowOf d) g))
+    (other-row (rowOf d) hs (s .store) (f .words) row short k (monthUsed years k) other (u .months k below)))
 
-spare-closing : (s : State) (marks buffer : List ℕ) → Fits s → Unused s → accepted s (closing marks buffer) ≡ true → Unused (accept s (closing marks buffer))
+spare-closing : (s : State) (marks buffer : List ℕ) → StateFits s → Unused s → accepted s (closing marks buffer) ≡ true → Unused (accept s (closing marks buffer))
 unfolding accept closedWith inputs
 spare-closing s marks buffer f u t =
     let d = s .point .date in
     let out = rules (inputs s marks) in
-    let m = open-month (s .point) (f .record-fits) (own s (closing marks buffer) t .goes) in
-    let long : length (out .hours) ≡ openHours d = rules-right (inputs s marks) (inputs-sane s marks buffer t) .long in
+    let m = open-month (s .point) (f .record-fits) (call-passed s (closing marks buffer) t .notOver) in
+    let long : length (out .hours) ≡ openHours d = rules-right (inputs s marks) (inputs-fit s marks buffer t) .long in
     let short : length (out .hours) ≤ 744 = omega (arith, long, month-hours d m, days-high d) in
     let filed : List ℕ = rowsAfter (becomesPast out) (out .hours) d (s .store) in
     let size : length filed ≡ 10416 =
     by-cases (becomesPast out)
-    (λ y. rw y (size-after (slot d) (out .hours) (s .store) (f .words) (omega (arith, slot-row d m)) short))
+    (λ y. rw y (size-after (rowOf d) (out .hours) (s .store) (f .words) (omega (arith, row-few d m)) short))
     (λ n. rw n (f .words)) in
     let size′ = size-after 12 [] filed size (lit≤ tt) (lit≤ tt) in
     let months : (k : ℕ) → k < 12 → ZeroFrom filed k (monthUsed (pastAfter (becomesPast out) (s .point .past) d .years) k) =
@@ -174,7 +174,7 @@ spare-closing s marks buffer f u t =
     }
 
 -- EVERY ACCEPTED CALL
-pub call-spare : (s : State) (c : Call) → Fits s → Unused s → accepted s c ≡ true → Unused (accept s c)
+pub call-spare : (s : State) (c : Call) → StateFits s → Unused s → accepted s c ≡ true → Unused (accept s c)
 unfolding accept
 call-spare s (billingHours hs) f u t = spare-billing-hours s hs f u t
 call-spare s (controlHours hs) f u t = spare-control-hours s hs f u t

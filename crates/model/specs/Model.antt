@@ -15,12 +15,12 @@ use Rattle.record.specs.declared.Reading.{Reading}
 use Rattle.record.specs.declared.Readings.{Readings}
 use Rattle.record.specs.declared.Record.{Record}
 use Rattle.record.specs.Record.{isSet, kwh, notGiven, givenAs, noReadings, withService, withReadings, withServing, withDenials, withRun, withBilling, withControl, withFirst, withSecond}
-use Rattle.rows.specs.Store.{asRow, withHours, withoutHours}
+use Rattle.store.specs.Store.{asRow, withHours, withoutHours}
 use Rattle.rules.specs.declared.Figures.{Figures}
 use Rattle.rules.specs.Calls.{Call, billingHours, controlHours, billingVolume, controlVolume, neighbour, failure, admission, denial, permission, closing, bufferOf, isFault}
-use Rattle.rules.specs.Rules.{Measured, missing, hourly, whole, Stated, unstated, stated, PastHours, none, some, Inputs, Outcome, countedOf, neighbourOf, rules, becomesPast, figures, noFigures}
+use Rattle.rules.specs.Rules.{Measured, missing, hourly, whole, Stated, unstated, stated, PastHours, noPastHours, pastHours, Inputs, Outcome, countedOf, neighbourOf, rules, becomesPast, figures, noFigures}
 use Rattle.model.specs.declared.Answer.{Answer}
-use Rattle.model.specs.Refusals.{anyone, ownRefusal}
+use Rattle.model.specs.Refusals.{refuseAnyone, ownRefusal}
 
 -- what a point keeps: its record and its store
 pub record State : Type 0 where
@@ -41,14 +41,14 @@ withSource g source x = cond (eqb source 1) (withFirst g x) (withSecond g x)
 
 -- FAILURE
 -- an earlier 1 or 2 at most 12 months back (year × 12 + month; the same month counts)
-abbrev pub isRepeat : ℕ → ℕ → Bool
-isRepeat fault month = not (eqb fault 0) && leb month (fault + 12)
+abbrev pub faultWithinYear : ℕ → ℕ → Bool
+faultWithinYear fault month = not (eqb fault 0) && leb month (fault + 12)
 
 -- out of service. With reason 1 or 2: a repeat makes the run 0; then, repeat or not, the month is kept as the last fault
 abbrev pub afterFailure : Service → Date → ℕ → Service
 afterFailure s d reason =
     record {
-      run = cond (isFault reason && isRepeat (s .fault) (monthNumber d)) 0 (s .run);
+      run = cond (isFault reason && faultWithinYear (s .fault) (monthNumber d)) 0 (s .run);
       serving = 0;
       denials = s .denials;
       fault = cond (isFault reason) (monthNumber d) (s .fault);
@@ -69,12 +69,12 @@ unfoldable pub statedIn : Reading → Stated
 statedIn g = cond (isSet (g .given)) (stated (g .volume .0)) unstated
 
 -- the row of a calendar month
-abbrev pub slot : Date → ℕ
-slot d = d .month - 1
+abbrev pub rowOf : Date → ℕ
+rowOf d = d .month - 1
 
 -- the hours of a past month in its row
-abbrev pub hoursOf : State → Date → List ℕ
-hoursOf s d = rowPart (s .store) (slot d) (openHours d)
+abbrev pub rowHours : State → Date → List ℕ
+rowHours s d = rowPart (s .store) (rowOf d) (openHours d)
 
 abbrev pub lastYear : Date → Date
 lastYear d = record { year = d .year - 1; month = d .month }
@@ -82,9 +82,9 @@ lastYear d = record { year = d .year - 1; month = d .month }
 -- the past is the row of the same month last year, if it holds that year; else the latest past month; else none
 unfoldable pub pastIn : State → PastHours
 pastIn s =
-    cond (eqb (at (s .point .past .years) (slot (s .point .date))) (s .point .date .year - 1))
-    (some (hoursOf s (lastYear (s .point .date))))
-    (cond (eqb (s .point .past .latest) 0) none (some (hoursOf s (dateOf (s .point .past .latest)))))
+    cond (eqb (at (s .point .past .years) (rowOf (s .point .date))) (s .point .date .year - 1))
+    (pastHours (rowHours s (lastYear (s .point .date))))
+    (cond (eqb (s .point .past .latest) 0) noPastHours (pastHours (rowHours s (dateOf (s .point .past .latest)))))
 
 -- what counts at a closing, from the record and the store: only the state at closing counts for the whole month (H)
 unfoldable pub inputs : State → List ℕ → Inputs
@@ -103,13 +103,13 @@ inputs s marks =
 -- in grounds 1 and 2 only, the hours become that calendar month's row and the latest past, and the run is 0; otherwise the run grows by 1
 abbrev pub pastAfter : Bool → Past → Date → Past
 pastAfter new p d =
-    record { years = cond new (set (p .years) (slot d) (d .year)) (p .years); latest = cond new (monthNumber d) (p .latest) }
+    record { years = cond new (set (p .years) (rowOf d) (d .year)) (p .years); latest = cond new (monthNumber d) (p .latest) }
 
 abbrev pub runAfter : Bool → ℕ → ℕ
 runAfter new run = cond new 0 (run + 1)
 
 abbrev pub rowsAfter : Bool → List ℕ → Date → List ℕ → List ℕ
-rowsAfter new hs d store = cond new (withHours (slot d) hs store) store
+rowsAfter new hs d store = cond new (withHours (rowOf d) hs store) store
 
 -- the total grows, rows 12 and 13 and the readings clear, the next month opens
 abbrev pub pointAfter : Bool → ℕ → Record → Record
@@ -150,7 +150,7 @@ accept s (closing marks buffer) = closedWith (rules (inputs s marks)) s
 
 -- THE NUMBER that a call returns, 0 where it is accepted
 unfoldable pub refusal : State → Call → ℕ
-refusal s c = anyone (length (s .store)) (s .point) (ownRefusal (s .point) (s .store) c)
+refusal s c = refuseAnyone (length (s .store)) (s .point) (ownRefusal (s .point) (s .store) c)
 
 unfoldable pub accepted : State → Call → Bool
 accepted s c = eqb (refusal s c) 0
@@ -160,8 +160,8 @@ unfoldable pub leaves : State → Call → State
 leaves s c = cond (accepted s c) (accept s c) s
 
 -- an answer with ground and figures 0
-abbrev pub quiet : ℕ → Record → Answer
-quiet number r = record { refusal = number; after = r; figures = noFigures }
+abbrev pub withoutFigures : ℕ → Record → Answer
+withoutFigures number r = record { refusal = number; after = r; figures = noFigures }
 
 -- the figures and the hours of an accepted call; only a closing has any
 unfoldable pub figuresOf : State → Call → Figures

@@ -7,11 +7,11 @@ use lib.ListN.{length}
 use lib.Dec.{eqb}
 use Rattle.contract.specs.Contract.{kept}
 use Rattle.record.specs.Record.{zeroRecord, freshRecord}
-use Rattle.rows.specs.Store.{emptyStore}
+use Rattle.store.specs.Store.{emptyStore}
 use Rattle.rules.specs.Calls.{Opening}
 use Rattle.model.specs.declared.Answer.{Answer}
 use Rattle.model.specs.Refusals.{openRefusal}
-use Rattle.model.specs.Model.{State, state, quiet}
+use Rattle.model.specs.Model.{State, state, withoutFigures}
 
 unfoldable pub opens : Opening → List ℕ → Bool
 opens o store = eqb (openRefusal (length store) o) 0
@@ -25,7 +25,7 @@ unfoldable pub openLeaves : Opening → List ℕ → State
 openLeaves o store = cond (opens o store) (opened o) (state zeroRecord store)
 
 unfoldable pub openAnswer : Opening → List ℕ → Answer
-openAnswer o store = quiet (openRefusal (length store) o) (openLeaves o store .point)
+openAnswer o store = withoutFigures (openRefusal (length store) o) (openLeaves o store .point)
 
 -- WHAT A CONTRACT SAYS of the opening o with the store `before`, which answers a and leaves the store `after`
 pub record Opens (o : Opening) (before : List ℕ) (a : Answer) (after : List ℕ) : Type 0 where

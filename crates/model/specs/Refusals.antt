@@ -13,7 +13,7 @@ use Rattle.record.specs.declared.Record.{Record}
 use Rattle.record.specs.declared.Service.{Service}
 use Rattle.record.specs.Record.{isSet}
 use Rattle.validity.specs.Valid.{valid, volumeLimit}
-use Rattle.rows.specs.Store.{storeFits}
+use Rattle.store.specs.Store.{storeFits}
 use Rattle.rules.specs.Calls.{Opening, Call, billingHours, controlHours, billingVolume, controlVolume, neighbour, failure, admission, denial, permission, closing}
 
 -- the number where the test holds, else the rest of the list
@@ -21,8 +21,8 @@ unfoldable pub refuse : Bool → ℕ → ℕ → ℕ
 refuse test number rest = cond test number rest
 
 -- ANYONE, before what the call itself has to say
-abbrev pub anyone : ℕ → Record → ℕ → ℕ
-anyone words r rest =
+abbrev pub refuseAnyone : ℕ → Record → ℕ → ℕ
+refuseAnyone words r rest =
     -- 1 store not 10,416 words
     refuse (not (eqb words 10416)) 1
     -- 2 record not open, a field outside the limits here or not 0 where it has to be, ..: the tests of `valid`
@@ -46,8 +46,8 @@ openRefusal words o =
     (refuse (eqb (o .asked .basis) 2 && not (listFits (o .currents) (o .place))) 14 0)))))
 
 -- METER READERS: which of 20 to 24 applies; 20 no such meter, or a reading of the other form, or neighbour source not 1 or 2
-abbrev pub readers : Bool → Bool → Bool → Bool → Bool → ℕ
-readers t20 t21 t22 t23 t24 = refuse t20 20 (refuse t21 21 (refuse t22 22 (refuse t23 23 (refuse t24 24 0))))
+abbrev pub refuseReading : Bool → Bool → Bool → Bool → Bool → ℕ
+refuseReading t20 t21 t22 t23 t24 = refuse t20 20 (refuse t21 21 (refuse t22 22 (refuse t23 23 (refuse t24 24 0))))
 
 -- 21 billing reading while out of service or with denials 2
 abbrev pub isBarred : Service → Bool
@@ -78,22 +78,22 @@ isReason reason = leb 1 reason && leb reason 4
 -- the numbers of each reading
 abbrev pub billingHoursNumber : Record → List ℕ → ℕ
 billingHoursNumber r hours =
-    readers (not (eqb (r .contract .billing) 1)) (isBarred (r .service)) (isSet (r .readings .billing .given)) (notMonth r hours) (hourAbove hours)
+    refuseReading (not (eqb (r .contract .billing) 1)) (isBarred (r .service)) (isSet (r .readings .billing .given)) (notMonth r hours) (hourAbove hours)
 
 abbrev pub controlHoursNumber : Record → List ℕ → ℕ
 controlHoursNumber r hours =
-    readers (not (eqb (r .contract .control) 1)) false (isSet (r .readings .control .given)) (notMonth r hours) (hourAbove hours)
+    refuseReading (not (eqb (r .contract .control) 1)) false (isSet (r .readings .control .given)) (notMonth r hours) (hourAbove hours)
 
 abbrev pub billingVolumeNumber : Record → ℕ → ℕ
 billingVolumeNumber r v =
-    readers (not (eqb (r .contract .billing) 2)) (isBarred (r .service)) (isSet (r .readings .billing .given)) false (volumeAbove r v)
+    refuseReading (not (eqb (r .contract .billing) 2)) (isBarred (r .service)) (isSet (r .readings .billing .given)) false (volumeAbove r v)
 
 abbrev pub controlVolumeNumber : Record → ℕ → ℕ
 controlVolumeNumber r v =
-    readers (not (eqb (r .contract .control) 2)) false (isSet (r .readings .control .given)) false (volumeAbove r v)
+    refuseReading (not (eqb (r .contract .control) 2)) false (isSet (r .readings .control .given)) false (volumeAbove r v)
 
 abbrev pub neighbourNumber : Record → ℕ → ℕ → ℕ
-neighbourNumber r source v = readers (not (isSource source)) false (sourceGiven r source) false (volumeAbove r v)
+neighbourNumber r source v = refuseReading (not (isSource source)) false (sourceGiven r source) false (volumeAbove r v)
 
 -- NETWORK FIRM
 -- 30 failure while out of service; 31 reason not 1 to 4

@@ -11,12 +11,12 @@ use Rattle.calendar.specs.Calendar.{openHours, monthNumber}
 use Rattle.record.specs.declared.Reading.{Reading}
 use Rattle.record.specs.Record.{isSet}
 use Rattle.validity.specs.Valid.{valid}
-use Rattle.rows.specs.Store.{storeFits}
+use Rattle.store.specs.Store.{storeFits}
 use Rattle.rules.specs.Rules.{Outcome}
 use Rattle.model.specs.Model.{State}
 
 -- the record passes number 2 and has its twelve years, and the store passes numbers 1 and 45
-pub record Fits (s : State) : Type 0 where
+pub record StateFits (s : State) : Type 0 where
   pub record-fits : valid (s .point) ≡ true
   pub twelve : length (s .point .past .years) ≡ 12
   pub words : length (s .store) ≡ 10416
@@ -33,7 +33,7 @@ elapsed s = monthNumber (s .point .date) - 24169
 
 -- the run grows by at most 1 a month, and the total by at most 744 × 3,000,000
 pub record Sound (s : State) : Type 0 where
-  pub fits : Fits s
+  pub fits : StateFits s
   pub run : s .point .service .run ≤ elapsed s
   pub total : s .point .total .0 ≤ 2232000000 * elapsed s
 

@@ -1,7 +1,7 @@
 // What every call answers, and the lists of refusals that several calls share.
 ghost use mathlib.Core.Path.{_≡_};
-ghost use Rattle.model.specs.Refusals.{refuse, anyone, readers};
-ghost use Rattle.model.specs.Model.{quiet};
+ghost use Rattle.model.specs.Refusals.{refuse, refuseAnyone, refuseReading};
+ghost use Rattle.model.specs.Model.{withoutFigures};
 use record::Record;
 use rules::Figures;
 use units::Kw;
@@ -18,7 +18,7 @@ pub struct Answer {
 
 // An answer with no figures: a refusal, or an accepted call that is no closing.
 pub fn answer_with(refusal: u32, after: Record) -> Answer
-    ensures { λ a. ⌜ a ≡ quiet refusal after ⌝ }
+    ensures { λ a. ⌜ a ≡ withoutFigures refusal after ⌝ }
 {
     let figures = Figures {
         ground: 0,
@@ -43,7 +43,7 @@ pub fn refuse_if(test: bool, number: u32, rest: u32) -> u32
 
 // Anyone's numbers, 1 to 3, before what the call itself has to say.
 pub fn refuse_anyone(words: usize, r: Record, rest: u32) -> u32
-    ensures { λ n. ⌜ n ≡ anyone words r rest ⌝ }
+    ensures { λ n. ⌜ n ≡ refuseAnyone words r rest ⌝ }
 {
     let n = refuse_if(r.date.year == 3000, 3, rest);
     let n = refuse_if(!is_valid(r), 2, n);
@@ -52,7 +52,7 @@ pub fn refuse_anyone(words: usize, r: Record, rest: u32) -> u32
 
 // The meter readers' numbers, 20 to 24.
 pub fn refuse_reading(t20: bool, t21: bool, t22: bool, t23: bool, t24: bool) -> u32
-    ensures { λ n. ⌜ n ≡ readers t20 t21 t22 t23 t24 ⌝ }
+    ensures { λ n. ⌜ n ≡ refuseReading t20 t21 t22 t23 t24 ⌝ }
 {
     let n = refuse_if(t24, 24, 0);
     let n = refuse_if(t23, 23, n);

@@ -100,12 +100,12 @@ count-some f n h l t =
     omega (arith, sum-up (λ k. cond (f k) 1 0) l)
 
 -- f holds of one index below n where it has a count
-pub record Holds (f : ℕ → Bool) (n : ℕ) : Type 0 where
+pub record HoldsOfOne (f : ℕ → Bool) (n : ℕ) : Type 0 where
   pub index : ℕ
   pub below : index < n
   pub holds : f index ≡ true
 
-pub count-holds : (f : ℕ → Bool) (n : ℕ) → 0 < countTo f n → Holds f n
+pub count-holds : (f : ℕ → Bool) (n : ℕ) → 0 < countTo f n → HoldsOfOne f n
 count-holds f zero l = absurd (omega arith)
 count-holds f (suc n) l =
     by-cases (f n)

@@ -17,7 +17,7 @@ use power::list_fits;
 use power::power_of;
 use record::fresh_record;
 use record::zero_record;
-use rows::clear_store;
+use store::clear_store;
 
 // The number of an opening: 1 and 10 to 14.
 fn open_refusal(words: usize, asked: Contract, date: Date, currents: &[u32], place: usize) -> u32

@@ -3,7 +3,7 @@ ghost use mathlib.Core.Path.{_≡_};
 ghost use mathlib.Core.Bool.{false};
 ghost use mathlib.Core.List.{[]};
 ghost use Rattle.rules.specs.Calls.Call.{billingHours, billingVolume, controlHours, controlVolume, neighbour};
-ghost use Rattle.model.specs.Refusals.{anyone, readers, isBarred, notMonth, hourAbove, volumeAbove, billingHoursNumber, controlHoursNumber, billingVolumeNumber, controlVolumeNumber, neighbourNumber};
+ghost use Rattle.model.specs.Refusals.{refuseAnyone, refuseReading, isBarred, notMonth, hourAbove, volumeAbove, billingHoursNumber, controlHoursNumber, billingVolumeNumber, controlVolumeNumber, neighbourNumber};
 ghost use Rattle.model.specs.Model.{state, Does};
 use calendar::open_hours;
 use model::Answer;
@@ -20,7 +20,7 @@ use record::changes::with_billing;
 use record::changes::with_control;
 use record::changes::with_first;
 use record::changes::with_second;
-use rows::write_row;
+use store::write_row;
 use units::Kwh;
 use validity::volume_limit;
 
@@ -33,7 +33,7 @@ fn is_barred(s: Service) -> bool
 
 // The numbers of a reading of hours, 20 to 24.
 fn refuse_hours(r: Record, t20: bool, t21: bool, t22: bool, hours: &[u32]) -> u32
-    ensures { λ n. ⌜ n ≡ readers t20 t21 t22 (notMonth r (now (hours .entry))) (hourAbove (now (hours .entry))) ⌝ }
+    ensures { λ n. ⌜ n ≡ refuseReading t20 t21 t22 (notMonth r (now (hours .entry))) (hourAbove (now (hours .entry))) ⌝ }
 {
     let t = open_hours(r.date) as usize;
     refuse_reading(t20, t21, t22, hours.len() != t, !none_above(hours, 1000000))
@@ -41,13 +41,13 @@ fn refuse_hours(r: Record, t20: bool, t21: bool, t22: bool, hours: &[u32]) -> u3
 
 // The numbers of a reading of a volume, 20 to 22 and 24.
 fn refuse_volume(r: Record, t20: bool, t21: bool, t22: bool, volume: Kwh) -> u32
-    ensures { λ n. ⌜ n ≡ readers t20 t21 t22 false (volumeAbove r (volume .0)) ⌝ }
+    ensures { λ n. ⌜ n ≡ refuseReading t20 t21 t22 false (volumeAbove r (volume .0)) ⌝ }
 {
     refuse_reading(t20, t21, t22, false, volume_limit(r.date) < volume.0)
 }
 
 fn billing_hours_refusal(words: usize, r: Record, hours: &[u32]) -> u32
-    ensures { λ n. ⌜ n ≡ anyone words r (billingHoursNumber r (now (hours .entry))) ⌝ }
+    ensures { λ n. ⌜ n ≡ refuseAnyone words r (billingHoursNumber r (now (hours .entry))) ⌝ }
 {
     let other = r.contract.billing != 1;
     let given = r.readings.billing.given == 1;
@@ -68,7 +68,7 @@ pub fn read_billing_hours(r: Record, store: &mut [u32], hours: &[u32]) -> Answer
 }
 
 fn control_hours_refusal(words: usize, r: Record, hours: &[u32]) -> u32
-    ensures { λ n. ⌜ n ≡ anyone words r (controlHoursNumber r (now (hours .entry))) ⌝ }
+    ensures { λ n. ⌜ n ≡ refuseAnyone words r (controlHoursNumber r (now (hours .entry))) ⌝ }
 {
     let other = r.contract.control != 1;
     let given = r.readings.control.given == 1;
@@ -89,7 +89,7 @@ pub fn read_control_hours(r: Record, store: &mut [u32], hours: &[u32]) -> Answer
 }
 
 fn billing_volume_refusal(words: usize, r: Record, volume: Kwh) -> u32
-    ensures { λ n. ⌜ n ≡ anyone words r (billingVolumeNumber r (volume .0)) ⌝ }
+    ensures { λ n. ⌜ n ≡ refuseAnyone words r (billingVolumeNumber r (volume .0)) ⌝ }
 {
     let other = r.contract.billing != 2;
     let given = r.readings.billing.given == 1;
@@ -109,7 +109,7 @@ pub fn read_billing_volume(r: Record, store: &[u32], volume: Kwh) -> Answer
 }
 
 fn control_volume_refusal(words: usize, r: Record, volume: Kwh) -> u32
-    ensures { λ n. ⌜ n ≡ anyone words r (controlVolumeNumber r (volume .0)) ⌝ }
+    ensures { λ n. ⌜ n ≡ refuseAnyone words r (controlVolumeNumber r (volume .0)) ⌝ }
 {
     let other = r.contract.control != 2;
     let given = r.readings.control.given == 1;
@@ -129,7 +129,7 @@ pub fn read_control_volume(r: Record, store: &[u32], volume: Kwh) -> Answer
 }
 
 fn neighbour_refusal(words: usize, r: Record, source: u32, volume: Kwh) -> u32
-    ensures { λ n. ⌜ n ≡ anyone words r (neighbourNumber r source (volume .0)) ⌝ }
+    ensures { λ n. ⌜ n ≡ refuseAnyone words r (neighbourNumber r source (volume .0)) ⌝ }
 {
     let other = !((source == 1) | (source == 2));
     let given = pick(source == 1, r.readings.first.given, r.readings.second.given) == 1;

@@ -14,9 +14,9 @@ use Rattle.contract.specs.declared.Contract.{Contract}
 use Rattle.contract.specs.Contract.{noCable, powerOf}
 use Rattle.record.specs.declared.Record.{Record}
 use Rattle.record.specs.Record.{kwh, noReadings, freshRecord, freshService, withService, withReadings, withPast, withServing, withDenials, withBilling}
-use Rattle.rules.specs.Rules.{Measured, missing, hourly, whole, PastHours, none, some, Inputs, countedOf, neighbourOf}
+use Rattle.rules.specs.Rules.{Measured, missing, hourly, whole, PastHours, noPastHours, pastHours, Inputs, countedOf, neighbourOf}
 use Rattle.model.specs.Model.{state, measuredIn, statedIn, pastIn, inputs}
-use Rattle.reasons.specs.Reasons.{clauseOf, readingOf, noDate, pastMonth, comparedPast, comparedControl, comparedBilling, comparedIn, reasonsOf}
+use Rattle.reasons.specs.Reasons.{clauseOf, volumeRead, noDate, pastMonth, comparedPast, comparedControl, comparedBilling, comparedIn, reasonsOf}
 
 abbrev pub on : ℕ → ℕ → Date
 on y m = record { year = y; month = m }
@@ -40,10 +40,10 @@ clauses = (refl, refl, refl, refl, refl, refl, refl, refl)
 
 -- B even at 0; K only without a billing reading; nothing of an interval meter
 volumes :
-    (readingOf (whole 7) (whole 5) ≡ 7) × (readingOf (whole 0) (whole 5) ≡ 0) × (readingOf (hourly (9 ∷ [])) (whole 5) ≡ 0)
-    × (readingOf missing (whole 5) ≡ 5)
-    × (readingOf missing (hourly (9 ∷ [])) ≡ 0) × (readingOf missing missing ≡ 0)
-unfolding readingOf
+    (volumeRead (whole 7) (whole 5) ≡ 7) × (volumeRead (whole 0) (whole 5) ≡ 0) × (volumeRead (hourly (9 ∷ [])) (whole 5) ≡ 0)
+    × (volumeRead missing (whole 5) ≡ 5)
+    × (volumeRead missing (hourly (9 ∷ [])) ≡ 0) × (volumeRead missing missing ≡ 0)
+unfolding volumeRead
 volumes = (refl, refl, refl, refl, refl, refl)
 
 -- open in February 2024, where row 1 holds a year, and the latest past month
@@ -58,7 +58,7 @@ unfolding pastMonth dateOf
 pasts = (refl, refl, refl, refl, refl)
 
 unfoldable pub working : Unit {0}
-unfolding reasonsOf clauseOf readingOf pastMonth comparedIn comparedBilling comparedControl comparedPast inputs measuredIn statedIn pastIn
+unfolding reasonsOf clauseOf volumeRead pastMonth comparedIn comparedBilling comparedControl comparedPast inputs measuredIn statedIn pastIn
     countedOf neighbourOf powerOf
     openHours monthHours monthDays isMonth leapYear dateOf formula halfUp peakCount capacitySum portion taken spread sharesOver stretched
 working = tt
@@ -70,7 +70,7 @@ january marks r b k n past =
 
 -- a past of 5 kWh; and C' of a day with one peak and capacity hour, hour 10
 abbrev row : PastHours
-row = some (5 ∷ [])
+row = pastHours (5 ∷ [])
 
 abbrev marked : ℕ → List ℕ
 marked m = set (zeros 24) 10 m
@@ -78,7 +78,7 @@ marked m = set (zeros 24) 10 m
 -- C' is 0 with R 2, without peak hours, without a past, and with any other reading than K. Values of it are in the crate `whole_months`
 sums :
     (comparedIn (january (marked 3) 2 missing (whole 20) 4 row) ≡ 0) × (comparedIn (january (marked 2) 3 missing (whole 20) 4 row) ≡ 0)
-    × (comparedIn (january (marked 3) 3 missing (whole 20) 4 none) ≡ 0) × (comparedIn (january (marked 3) 3 (whole 20) (whole 20) 4 row) ≡ 0)
+    × (comparedIn (january (marked 3) 3 missing (whole 20) 4 noPastHours) ≡ 0) × (comparedIn (january (marked 3) 3 (whole 20) (whole 20) 4 row) ≡ 0)
     × (comparedIn (january (marked 3) 3 missing (hourly (5 ∷ [])) 4 row) ≡ 0) × (comparedIn (january (marked 3) 3 missing missing 4 row) ≡ 0)
 unfolding working
 sums = (refl, refl, refl, refl, refl, refl)

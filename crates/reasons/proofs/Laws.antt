@@ -20,21 +20,21 @@ use Rattle.record.specs.declared.Record.{Record}
 use Rattle.record.specs.Record.{isSet}
 use Rattle.validity.specs.Valid.{valid}
 use Rattle.validity.proofs.Laws.{valid-parts, past-parts}
-use Rattle.rows.specs.Store.{asRow}
+use Rattle.store.specs.Store.{asRow}
 use Rattle.rules.specs.Calls.{Call}
-use Rattle.rules.specs.Rules.{Measured, missing, hourly, whole, PastHours, none, some, Inputs, countedOf, hoursIn, peaksIn, daysIn, pointPower, byPeaks, byWeights, asRead, evenly, byContract, onPast, groundSixIn, onControlPast, onControl, onBilling, rules}
-use Rattle.model.specs.Model.{State, state, measuredIn, hoursOf, lastYear, pastIn, inputs, refusal, accepted}
+use Rattle.rules.specs.Rules.{Measured, missing, hourly, whole, PastHours, noPastHours, pastHours, Inputs, countedOf, hoursIn, peaksIn, daysIn, pointPower, byPeaks, byWeights, asRead, evenly, byContract, onPast, groundSixIn, onControlPast, onControl, onBilling, rules}
+use Rattle.model.specs.Model.{State, state, measuredIn, rowHours, lastYear, pastIn, inputs, refusal, accepted}
 use Rattle.grounds.specs.declared.past.PastMonth.{PastMonth}
-use Rattle.grounds.specs.Found.{hoursFrom, PastOf}
+use Rattle.grounds.specs.Found.{hoursFrom, PastFound}
 use Rattle.grounds.proofs.PastMonths.{month-limits, latest-date}
-use Rattle.choice.proofs.Laws.{Known, peaks-are, capacity-row}
-use Rattle.reasons.specs.Reasons.{readingOf, pastMonth, comparedPast, comparedControl, comparedBilling, comparedIn}
+use Rattle.first_ground.proofs.Laws.{Known, peaks-are, capacity-row}
+use Rattle.reasons.specs.Reasons.{volumeRead, pastMonth, comparedPast, comparedControl, comparedBilling, comparedIn}
 
 -- B or K, as the record holds the two readings
 pub reading-is : (b k : ℕ) (g h : Reading) (hs ks : List ℕ)
     → cond (isSet (g .given)) (cond (eqb b 1) 0 (g .volume .0)) (cond (isSet (h .given)) (cond (eqb k 1) 0 (h .volume .0)) 0)
-    ≡ readingOf (measuredIn b g hs) (measuredIn k h ks)
-unfolding readingOf measuredIn
+    ≡ volumeRead (measuredIn b g hs) (measuredIn k h ks)
+unfolding volumeRead measuredIn
 reading-is b k g h hs ks =
     by-cases (isSet (g .given)) (λ t. rw t (by-cases (eqb b 1) (λ o. rw o) (λ o. rw o)))
     (λ f. rw f (by-cases (isSet (h .given)) (λ t. rw t (by-cases (eqb k 1) (λ o. rw o) (λ o. rw o))) (λ n. rw n)))
@@ -67,7 +67,7 @@ unfolding monthNumber
 year-there r v z = omega (arith, month-limits r v)
 
 -- THE PAST IS THE PAST MONTH'S: none where its year is 0, else its hours
-pub past-is : (s : State) → valid (s .point) ≡ true → pastIn s ≡ cond (eqb (pastMonth (s .point) .year) 0) none (some (hoursOf s (pastMonth (s .point))))
+pub past-is : (s : State) → valid (s .point) ≡ true → pastIn s ≡ cond (eqb (pastMonth (s .point) .year) 0) noPastHours (pastHours (rowHours s (pastMonth (s .point))))
 unfolding pastIn pastMonth
 past-is s v =
     let r = s .point in
@@ -120,7 +120,7 @@ abbrev pub isDue : Record → PastMonth → ℕ → ℕ → Bool
 isDue r p counted peaks =
     not (isSet (r .readings .billing .given)) && isSet (r .readings .control .given) && not (eqb (r .contract .control) 1) && p .found && leb 3 counted && ltb 0 peaks
 
-compared-is : (r : Record) (store marks : List ℕ) (p : PastMonth) → PastOf r p
+compared-is : (r : Record) (store marks : List ℕ) (p : PastMonth) → PastFound r p
     → comparedIn (inputs (state r store) marks)
     ≡ cond (isDue r p (inputs (state r store) marks .counted) (peakCount marks))
     (capacitySum marks (shares (r .readings .control .volume .0 - inputs (state r store) marks .neighbour) (stretched (rowPart store (p .row) (p .hours)) (openHours (r .date))))) 0
@@ -128,7 +128,7 @@ unfolding inputs
 compared-is r store marks p past =
     compared-when (inputs (state r store) marks) _ _ (r .readings .billing) (r .readings .control) _ _ store p refl refl (past .same store)
 
-module _ {r : Record} {store marks buffer : List ℕ} (k : Known r store marks buffer) {p : PastMonth} (past : PastOf r p) {survey : Survey} (e : survey ≡ surveyOf marks)
+module _ {r : Record} {store marks buffer : List ℕ} (k : Known r store marks buffer) {p : PastMonth} (past : PastFound r p) {survey : Survey} (e : survey ≡ surveyOf marks)
     {n : ℕ} (f : n ≡ countedOf (r .service .run) (r .service .denials)) where
   pub compared-due : isDue r p n (survey .peaks) ≡ true → {v t c : ℕ} {after : List ℕ} → v ≡ r .readings .control .volume .0 - inputs (state r store) marks .neighbour
       → t ≡ openHours (r .date) → after ≡ asRow (shares v (stretched (rowPart store (p .row) (p .hours)) t)) → c ≡ capacitySum marks after
@@ -160,8 +160,8 @@ six-peaks i v hs = by-cases (ltb 0 (peaksIn i)) (λ t. rw t) (λ f. rw f (six-no
 
 six-past : (i : Inputs) (v : ℕ) (p : PastHours) → eqb (onControlPast i v p .ground) 6 ≡ sixBy i v (comparedPast i v p)
 unfolding onControlPast byPeaks byWeights comparedPast
-six-past i v none = six-not i v
-six-past i v (some hs) =
+six-past i v noPastHours = six-not i v
+six-past i v (pastHours hs) =
     let ws = stretched hs (hoursIn i) in
     by-cases (leb (i .counted) 2)
     (λ t. rw (t, lt-leb 3 (i .counted) (omega (arith, leb-true (i .counted) 2 t))) (six-not i v))
@@ -173,22 +173,22 @@ contract-other i = by-cases (eqb (i .contract .basis) 3) (λ t. rw t) (λ f. rw 
 
 past-other : (i : Inputs) (p : PastHours) → eqb (onPast i p .ground) 6 ≡ false
 unfolding onPast asRead
-past-other i none = contract-other i
-past-other i (some hs) = by-cases (leb (i .counted) 2) (λ t. rw t) (λ f. rw f (contract-other i))
+past-other i noPastHours = contract-other i
+past-other i (pastHours hs) = by-cases (leb (i .counted) 2) (λ t. rw t) (λ f. rw f (contract-other i))
 
-six-control : (i : Inputs) (k : Measured) → eqb (onControl i k .ground) 6 ≡ sixBy i (readingOf missing k - i .neighbour) (comparedControl i k)
-unfolding onControl asRead comparedControl readingOf
+six-control : (i : Inputs) (k : Measured) → eqb (onControl i k .ground) 6 ≡ sixBy i (volumeRead missing k - i .neighbour) (comparedControl i k)
+unfolding onControl asRead comparedControl volumeRead
 six-control i missing = past-other i (i .past) ∙ six-not i (0 - i .neighbour)
 six-control i (hourly hs) = six-not i (0 - i .neighbour)
 six-control i (whole k) = six-past i (k - i .neighbour) (i .past)
 
-six-billing : (i : Inputs) (b : Measured) → eqb (onBilling i b .ground) 6 ≡ sixBy i (readingOf b (i .control) - i .neighbour) (comparedBilling i b)
-unfolding onBilling asRead byPeaks comparedBilling readingOf
+six-billing : (i : Inputs) (b : Measured) → eqb (onBilling i b .ground) 6 ≡ sixBy i (volumeRead b (i .control) - i .neighbour) (comparedBilling i b)
+unfolding onBilling asRead byPeaks comparedBilling volumeRead
 six-billing i missing = six-control i (i .control)
 six-billing i (hourly hs) = six-not i (0 - i .neighbour)
 six-billing i (whole b) = six-not i (b - i .neighbour)
 
-pub six-is : (i : Inputs) → eqb (rules i .ground) 6 ≡ sixBy i (readingOf (i .billing) (i .control) - i .neighbour) (comparedIn i)
+pub six-is : (i : Inputs) → eqb (rules i .ground) 6 ≡ sixBy i (volumeRead (i .billing) (i .control) - i .neighbour) (comparedIn i)
 unfolding rules comparedIn
 six-is i = six-billing i (i .billing)
 

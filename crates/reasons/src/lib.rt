@@ -8,10 +8,10 @@ ghost use Rattle.reasons.specs.Reasons.{reasonsOf, noReasons};
 mod parts;
 
 use calendar::Date;
-use choice::counted;
-use choice::neighbour_volume;
-use choice::point_power;
 use closing::refuse_closing;
+use first_ground::counted;
+use first_ground::neighbour_volume;
+use first_ground::point_power;
 use marks::survey_marks;
 use parts::clause_of;
 use parts::compared;

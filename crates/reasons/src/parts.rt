@@ -7,13 +7,13 @@ ghost use Rattle.marks.specs.Marks.{surveyOf};
 ghost use Rattle.validity.specs.Valid.{valid};
 ghost use Rattle.rules.specs.Calls.Call.{closing};
 ghost use Rattle.model.specs.Model.{state, measuredIn, inputs, accepted};
-ghost use Rattle.reasons.specs.Reasons.{clauseOf, readingOf, pastMonth, comparedIn};
+ghost use Rattle.reasons.specs.Reasons.{clauseOf, volumeRead, pastMonth, comparedIn};
 use calendar::Date;
 use calendar::date_of;
 use calendar::open_hours;
-use choice::counted;
-use choice::less;
-use choice::neighbour_volume;
+use first_ground::counted;
+use first_ground::less;
+use first_ground::neighbour_volume;
 use grounds::ground_six;
 use grounds::past::find_past;
 use marks::Survey;
@@ -37,7 +37,7 @@ pub(crate) fn clause_of(r: Record) -> u32
 pub(crate) fn reading_of(r: Record) -> Kwh
     ensures { λ v. ⌜
         ((hs ks : List ℕ)
-        → v .0 ≡ readingOf (measuredIn (r .contract .billing) (r .readings .billing) hs) (measuredIn (r .contract .control) (r .readings .control) ks))
+        → v .0 ≡ volumeRead (measuredIn (r .contract .billing) (r .readings .billing) hs) (measuredIn (r .contract .control) (r .readings .control) ks))
         ⌝ }
 {
     let g = r.readings;

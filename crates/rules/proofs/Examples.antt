@@ -15,7 +15,7 @@ use Rattle.marks.specs.Peak.{peakPart}
 use Rattle.contract.specs.declared.Contract.{Contract}
 use Rattle.contract.specs.Contract.{noCable, powerOf}
 use Rattle.rules.specs.declared.Figures.{Figures}
-use Rattle.rules.specs.Rules.{Measured, missing, hourly, whole, unstated, stated, PastHours, none, some, Inputs, countedOf, neighbourOf}
+use Rattle.rules.specs.Rules.{Measured, missing, hourly, whole, unstated, stated, PastHours, noPastHours, pastHours, Inputs, countedOf, neighbourOf}
 use Rattle.rules.specs.Rules.{asRead, byWeights, byPeaks, evenly, byContract, onPast, groundSix, groundSixIn, onControlPast}
 use Rattle.rules.specs.Rules.{onControl, onBilling, rules, figures}
 
@@ -61,11 +61,11 @@ marked = set (zeros 744) 10 3
 
 -- a past of 5 kWh, all in hour 10
 abbrev pub past : PastHours
-past = some (set (zeros 744) 10 5)
+past = pastHours (set (zeros 744) 10 5)
 
 -- ground and month volume
-abbrev pub Gives : Inputs → ℕ → ℕ → Type 0
-Gives i g v = (rules i .ground ≡ g) × (rules i .volume ≡ v)
+abbrev pub GroundAndVolume : Inputs → ℕ → ℕ → Type 0
+GroundAndVolume i g v = (rules i .ground ≡ g) × (rules i .volume ≡ v)
 
 unfoldable pub working : Unit {0}
 unfolding rules onBilling onControl onControlPast onPast byContract evenly byPeaks byWeights asRead groundSixIn powerOf openHours monthHours
@@ -74,24 +74,24 @@ unfolding rules onBilling onControl onControlPast onPast byContract evenly byPea
 working = tt
 
 -- as read, and B - N, never below nil
-ground-1 : Gives (january (agreed 1) plain 1 (hourly (10 ∷ 20 ∷ [])) (whole 9) 4 past) 1 30
+ground-1 : GroundAndVolume (january (agreed 1) plain 1 (hourly (10 ∷ 20 ∷ [])) (whole 9) 4 past) 1 30
 unfolding working
 ground-1 = (refl, refl)
 
-ground-2 : Gives (january (agreed 1) plain 1 (whole 10) (whole 9) 4 past) 2 6 × Gives (january (agreed 1) plain 1 (whole 3) (whole 9) 4 past) 2 0
+ground-2 : GroundAndVolume (january (agreed 1) plain 1 (whole 10) (whole 9) 4 past) 2 6 × GroundAndVolume (january (agreed 1) plain 1 (whole 3) (whole 9) 4 past) 2 0
 unfolding working
 ground-2 = ((refl, refl), (refl, refl))
 
-ground-3 : Gives (january (agreed 1) plain 1 missing (hourly (5 ∷ [])) 4 past) 3 5
+ground-3 : GroundAndVolume (january (agreed 1) plain 1 missing (hourly (5 ∷ [])) 4 past) 3 5
 unfolding working
 ground-3 = (refl, refl)
 
 -- with R 2 by the past; with R 3 by the peak rule, where no hour is a peak; and where there is no past
-ground-4 : Gives (january (agreed 1) plain 2 missing (whole 9) 2 past) 4 7
+ground-4 : GroundAndVolume (january (agreed 1) plain 2 missing (whole 9) 2 past) 4 7
 unfolding working
 ground-4 = (refl, refl)
 
-ground-5 : Gives (january (agreed 1) plain 3 missing (whole 9) 2 past) 5 7 × Gives (january (agreed 1) plain 1 missing (whole 9) 2 none) 5 7
+ground-5 : GroundAndVolume (january (agreed 1) plain 3 missing (whole 9) 2 past) 5 7 × GroundAndVolume (january (agreed 1) plain 1 missing (whole 9) 2 noPastHours) 5 7
 unfolding working
 ground-5 = ((refl, refl), (refl, refl))
 
@@ -107,11 +107,11 @@ ground-7 : rules (january (agreed 1) plain 2 missing missing 4 past) .ground ≡
 unfolding working
 ground-7 = refl
 
-ground-8 : Gives (january (agreed 5) plain 3 missing missing 4 past) 8 3720 × Gives (january (agreed 5) plain 1 missing missing 4 none) 8 3720
+ground-8 : GroundAndVolume (january (agreed 5) plain 3 missing missing 4 past) 8 3720 × GroundAndVolume (january (agreed 5) plain 1 missing missing 4 noPastHours) 8 3720
 unfolding working
 ground-8 = ((refl, refl), (refl, refl))
 
-ground-9 : Gives (january cabled plain 3 missing missing 0 past) 9 30802
+ground-9 : GroundAndVolume (january cabled plain 3 missing missing 0 past) 9 30802
 unfolding working
 ground-9 = (refl, refl)
 

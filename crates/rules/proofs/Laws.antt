@@ -18,8 +18,8 @@ use Rattle.marks.specs.Peak.{peakRule}
 use Rattle.marks.proofs.Laws.{peaks-most}
 use Rattle.marks.proofs.Rule.{sum-peak-rule, length-peak-rule, peak-rule-most, peak-near, other-near}
 use Rattle.contract.specs.Contract.{powerOf}
-use Rattle.rules.specs.Rules.{Measured, missing, hourly, whole, PastHours, none, some, Inputs, hoursIn, pointPower, asRead, byWeights, byPeaks, evenly, byContract, onPast, groundSixIn, onControlPast, onControl, onBilling, rules, becomesPast, isMissed}
-use Rattle.rules.specs.Right.{Right, MeasuredFits, PastHoursFit, Sane}
+use Rattle.rules.specs.Rules.{Measured, missing, hourly, whole, PastHours, noPastHours, pastHours, Inputs, hoursIn, pointPower, asRead, byWeights, byPeaks, evenly, byContract, onPast, groundSixIn, onControlPast, onControl, onBilling, rules, becomesPast, isMissed}
+use Rattle.rules.specs.Right.{Right, MeasuredFits, PastHoursFit, InputsFit}
 
 -- the sum of a month's hours of at most k each
 sum-hours : (hs : List ℕ) (k : ℕ) → noneAbove k hs ≡ true → sum hs ≤ k * length hs
@@ -55,24 +55,24 @@ by-weights g v t ws other e any l =
     }
 
 -- a month of whole days
-module _ (i : Inputs) (sane : Sane i) where
+module _ (i : Inputs) (fit : InputsFit i) where
   long-month : 0 < hoursIn i
-  long-month = omega (arith, sane .whole-days, sane .some)
+  long-month = omega (arith, fit .whole-days, fit .some)
 
   short-month : hoursIn i ≤ 744
-  short-month = omega (arith, sane .whole-days, sane .few)
+  short-month = omega (arith, fit .whole-days, fit .few)
 
   -- P is at most 1,000,000
   power-small : pointPower i ≤ 1000000
   unfolding powerOf
   power-small =
       by-cases (eqb (i .contract .basis) 3)
-      (λ t. rw t (omega (arith, formula-most (i .contract .cable) 1 (sane .cable t))))
-      (λ f. rw f (sane .power))
+      (λ t. rw t (omega (arith, formula-most (i .contract .cable) 1 (fit .cable t))))
+      (λ f. rw f (fit .power))
 
   -- some hour is no peak
   rest : 0 < length (i .marks) - peakCount (i .marks)
-  rest = omega (arith, sane .marks, sane .whole-days, sane .some, peaks-most (i .marks) (sane .days) (sane .marks ∙ sane .whole-days) (sane .calm))
+  rest = omega (arith, fit .marks, fit .whole-days, fit .some, peaks-most (i .marks) (fit .days) (fit .marks ∙ fit .whole-days) (fit .notCrowded))
 
   -- BY THE PEAK RULE
   by-peaks : (g v : ℕ) → v ≤ hoursIn i * 1000000 → Right (hoursIn i) (byPeaks g i v)
@@ -81,19 +81,19 @@ module _ (i : Inputs) (sane : Sane i) where
       let p = pointPower i in
       let ms = i .marks in
       record {
-        long = length-peak-rule v p ms ∙ sane .marks;
-        sums = sum-peak-rule v p ms (omega (arith, sane .marks, long-month));
+        long = length-peak-rule v p ms ∙ fit .marks;
+        sums = sum-peak-rule v p ms (omega (arith, fit .marks, long-month));
         near = λ h m.
-            let m′ : h < length ms = omega (arith, sane .marks) in
+            let m′ : h < length ms = omega (arith, fit .marks) in
             by-cases (peakAt ms h)
             (λ t. let n = peak-near v p ms h m′ rest t in rw t (record { below = simp mul-one at (n .below); above = simp mul-one at (n .above) }))
             (λ f.
-            let n = rw (sane .marks) at (other-near v p ms h m′ rest f) in
+            let n = rw (fit .marks) at (other-near v p ms h m′ rest f) in
             rw f (record { below = simp mul-one at (n .below); above = simp mul-one at (n .above) }));
         most = omega (arith, short-month);
         small = λ y.
             none-above-from 3000000 (peakRule v p ms) λ h m.
-            peak-rule-most v p (sane .days) ms (sane .marks ∙ sane .whole-days) (sane .some) (sane .calm) power-small (rw (sane .marks) l) h
+            peak-rule-most v p (fit .days) ms (fit .marks ∙ fit .whole-days) (fit .some) (fit .notCrowded) power-small (rw (fit .marks) l) h
             (omega (arith, length-peak-rule v p ms));
       }
 
@@ -107,7 +107,7 @@ module _ (i : Inputs) (sane : Sane i) where
   unfolding byContract
   by-contract =
       by-cases (eqb (i .contract .basis) 3)
-      (λ t. rw t (by-even 9 (formula (i .contract .cable) (hoursIn i)) refl (formula-most (i .contract .cable) (hoursIn i) (sane .cable t))))
+      (λ t. rw t (by-even 9 (formula (i .contract .cable) (hoursIn i)) refl (formula-most (i .contract .cable) (hoursIn i) (fit .cable t))))
       (λ f. rw f (by-even 8 (hoursIn i * pointPower i) refl (omega (arith, mul-comm (hoursIn i) (pointPower i), mul-le-mul-left (hoursIn i) power-small, mul-comm (hoursIn i) 1000000))))
 
   -- the past of a month
@@ -125,8 +125,8 @@ module _ (i : Inputs) (sane : Sane i) where
   -- GROUND 7, else 8 and 9
   on-past : (p : PastHours) → PastHoursFit p → Right (hoursIn i) (onPast i p)
   unfolding onPast
-  on-past none f = by-contract
-  on-past (some hs) f =
+  on-past noPastHours f = by-contract
+  on-past (pastHours hs) f =
       by-cases (leb (i .counted) 2)
       (λ t. rw t (as-read 7 3000000 (hoursIn i) (stretched hs (hoursIn i)) (past-long hs) short-month (lit≤ tt) (past-small hs f)))
       (λ g. rw g by-contract)
@@ -134,8 +134,8 @@ module _ (i : Inputs) (sane : Sane i) where
   -- GROUNDS 4 TO 6
   on-control-past : (v : ℕ) (p : PastHours) → v ≤ hoursIn i * 1000000 → Right (hoursIn i) (onControlPast i v p)
   unfolding onControlPast
-  on-control-past v none l = by-peaks 5 v l
-  on-control-past v (some hs) l =
+  on-control-past v noPastHours l = by-peaks 5 v l
+  on-control-past v (pastHours hs) l =
       let most : v ≤ 2232000000 = omega (arith, short-month) in
       by-cases (leb (i .counted) 2)
       (λ t. rw t (by-weights 4 v (hoursIn i) (stretched hs (hoursIn i)) refl (past-long hs) long-month most))
@@ -148,21 +148,21 @@ module _ (i : Inputs) (sane : Sane i) where
   -- GROUNDS 3 TO 9
   on-control : (m : Measured) → MeasuredFits (hoursIn i) m → Right (hoursIn i) (onControl i m)
   unfolding onControl
-  on-control missing f = on-past (i .past) (sane .past)
+  on-control missing f = on-past (i .past) (fit .past)
   on-control (hourly hs) f = as-read 3 1000000 (hoursIn i) hs (f .long) short-month (lit≤ tt) (f .small)
   on-control (whole k) f = on-control-past (k - i .neighbour) (i .past) (omega arith)
 
   -- GROUNDS 1 TO 9
   on-billing : (m : Measured) → MeasuredFits (hoursIn i) m → Right (hoursIn i) (onBilling i m)
   unfolding onBilling
-  on-billing missing f = on-control (i .control) (sane .control)
+  on-billing missing f = on-control (i .control) (fit .control)
   on-billing (hourly hs) f = as-read 1 1000000 (hoursIn i) hs (f .long) short-month (lit≤ tt) (f .small)
   on-billing (whole b) f = by-peaks 2 (b - i .neighbour) (omega arith)
 
 -- THE RULES ARE RIGHT
-pub rules-right : (i : Inputs) → Sane i → Right (hoursIn i) (rules i)
+pub rules-right : (i : Inputs) → InputsFit i → Right (hoursIn i) (rules i)
 unfolding rules
-rules-right i sane = on-billing i sane (i .billing) (sane .billing)
+rules-right i fit = on-billing i fit (i .billing) (fit .billing)
 
 -- A MONTH BECOMES THE PAST just where it is not missed
 contract-late : (i : Inputs) → becomesPast (byContract i) ≡ false
@@ -171,13 +171,13 @@ contract-late i = by-cases (eqb (i .contract .basis) 3) (λ t. rw t) (λ f. rw f
 
 past-late : (i : Inputs) (p : PastHours) → becomesPast (onPast i p) ≡ false
 unfolding becomesPast onPast asRead
-past-late i none = contract-late i
-past-late i (some hs) = by-cases (leb (i .counted) 2) (λ t. rw t) (λ f. rw f (contract-late i))
+past-late i noPastHours = contract-late i
+past-late i (pastHours hs) = by-cases (leb (i .counted) 2) (λ t. rw t) (λ f. rw f (contract-late i))
 
 control-past-late : (i : Inputs) (v : ℕ) (p : PastHours) → becomesPast (onControlPast i v p) ≡ false
 unfolding becomesPast onControlPast byWeights byPeaks
-control-past-late i v none = refl
-control-past-late i v (some hs) =
+control-past-late i v noPastHours = refl
+control-past-late i v (pastHours hs) =
     by-cases (leb (i .counted) 2) (λ t. rw t)
     (λ f. rw f (by-cases (groundSixIn i v (shares v (stretched hs (hoursIn i)))) (λ t. rw t) (λ g. rw g)))
 

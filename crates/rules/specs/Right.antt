@@ -8,7 +8,7 @@ use lib.Dec.{eqb}
 use Rattle.numbers.specs.Lists.{sum, at, noneAbove}
 use Rattle.power.specs.Power.{cableFits}
 use Rattle.marks.specs.Marks.{crowded}
-use Rattle.rules.specs.Rules.{Measured, missing, hourly, whole, PastHours, none, some, Inputs, Share, Outcome, hoursIn, becomesPast}
+use Rattle.rules.specs.Rules.{Measured, missing, hourly, whole, PastHours, noPastHours, pastHours, Inputs, Share, Outcome, hoursIn, becomesPast}
 
 -- an hour is less than one kWh from its exact share
 pub record NearShare (x : ℕ) (q : Share) : Type 0 where
@@ -36,17 +36,17 @@ MeasuredFits t (hourly hs) = HoursFit t hs
 MeasuredFits t (whole v) = v ≤ t * 1000000
 
 abbrev pub PastHoursFit : PastHours → Type 0
-PastHoursFit none = Unit {0}
-PastHoursFit (some hs) = noneAbove 3000000 hs ≡ true
+PastHoursFit noPastHours = Unit {0}
+PastHoursFit (pastHours hs) = noneAbove 3000000 hs ≡ true
 
 -- what a point that is closed brings: marks of whole days that pass 42, a power and readings within their limits
-pub record Sane (i : Inputs) : Type 0 where
+pub record InputsFit (i : Inputs) : Type 0 where
   pub days : ℕ
   pub whole-days : hoursIn i ≡ 24 * days
   pub some : 0 < days
   pub few : days ≤ 31
   pub marks : length (i .marks) ≡ hoursIn i
-  pub calm : crowded (i .marks) days ≡ false
+  pub notCrowded : crowded (i .marks) days ≡ false
   pub power : i .contract .power .0 ≤ 1000000
   pub cable : eqb (i .contract .basis) 3 ≡ true → cableFits (i .contract .cable) ≡ true
   pub billing : MeasuredFits (hoursIn i) (i .billing)

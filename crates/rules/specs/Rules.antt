@@ -29,8 +29,8 @@ pub data Stated : Type 0 where
 
 -- the past: none, or its hours
 pub data PastHours : Type 0 where
-  none : PastHours
-  some : List ℕ → PastHours
+  noPastHours : PastHours
+  pastHours : List ℕ → PastHours
 
 -- what counts at a closing
 pub record Inputs : Type 0 where
@@ -124,8 +124,8 @@ byContract i =
 
 -- GROUND 7: no control reading; R at most 2; past: those of the past
 unfoldable pub onPast : Inputs → PastHours → Outcome
-onPast i none = byContract i
-onPast i (some hs) = cond (leb (i .counted) 2) (asRead 7 (stretched hs (hoursIn i))) (byContract i)
+onPast i noPastHours = byContract i
+onPast i (pastHours hs) = cond (leb (i .counted) 2) (asRead 7 (stretched hs (hoursIn i))) (byContract i)
 
 -- the test of ground 6: n > 0, and A × d < n × C', so that A / n is below C' / d
 abbrev pub groundSix : ℕ → ℕ → ℕ → ℕ → Bool
@@ -138,8 +138,8 @@ groundSixIn i v hs =
 
 -- GROUNDS 4 TO 6: control, integral, V. R at most 2 and past: shared by the past; R at least 3, past and the test: the same; otherwise the peak rule
 unfoldable pub onControlPast : Inputs → ℕ → PastHours → Outcome
-onControlPast i v none = byPeaks 5 i v
-onControlPast i v (some hs) =
+onControlPast i v noPastHours = byPeaks 5 i v
+onControlPast i v (pastHours hs) =
     let past : List ℕ = stretched hs (hoursIn i) in
     cond (leb (i .counted) 2) (byWeights 4 v past) (cond (groundSixIn i v (shares v past)) (byWeights 6 v past) (byPeaks 5 i v))
 

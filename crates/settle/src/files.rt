@@ -1,8 +1,8 @@
 // What is written of the files of a command, and when.
 use super::options::Options;
 use libc::STDOUT_FILENO;
-use player::Progress;
-use player::one_more;
+use line_player::Progress;
+use line_player::one_more;
 use record::zero_record;
 use sheets::answers::Counts;
 use sheets::answers::put_bad_line;

@@ -2,11 +2,11 @@
 ghost use mathlib.Core.Path.{_≡_};
 ghost use Prim.Native.Nat.{_+_, min};
 use super::files::flush;
-use player::Layout;
-use player::Progress;
-use player::bad_line;
-use player::one_more;
-use player::play_line;
+use line_player::Layout;
+use line_player::Progress;
+use line_player::bad_line;
+use line_player::one_more;
+use line_player::play_line;
 use text::put;
 
 // Adds bytes to a line; one with too many is too long as a whole.

@@ -14,12 +14,12 @@ use input::Step;
 use input::end_input;
 use input::play_input;
 use libc::STDIN_FILENO;
+use line_player::Layout;
+use line_player::Progress;
 use options::Options;
 use options::find_options;
 use options::is_option;
 use options::print_help;
-use player::Layout;
-use player::Progress;
 use sheets::answers::put_end;
 
 // Room for the bytes of a line.

@@ -1,6 +1,6 @@
 // The options of the command.
 use libc::STDOUT_FILENO;
-use player::Layout;
+use line_player::Layout;
 
 // Whether help is printed, which argument is an option that is not known, 0 for none, how the answers are written, and how
 // many files there are.

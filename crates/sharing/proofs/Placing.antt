@@ -10,7 +10,7 @@ use lib.ListN.{length}
 use Rattle.numbers.specs.Lists.{sumTo, at}
 use Rattle.numbers.proofs.Laws.{cond-most, sum-up}
 use Rattle.sharing.specs.Shares.{portion, taken, sharesOver, shares, every}
-use Rattle.sharing.specs.Underway.{Divides, Placed}
+use Rattle.sharing.specs.Underway.{QuotientFits, Placed}
 use Rattle.sharing.proofs.Laws.{portion-up, at-spread}
 use Rattle.sharing.proofs.Rule.{taken-every, taken-some}
 
@@ -26,9 +26,9 @@ module _ {v s : ℕ} {ws : List ℕ} {place : ℕ} (p : Placed v s ws place) whe
   unfolding weight
   first-is {h} f = f .is ∙ rw (p .sum, taken-every (length ws) (at ws) h)
 
-  pub first-divides : {h a whole : ℕ} → First s ws h a → First s ws (length ws) whole → h ≤ length ws → Divides v a whole
+  pub first-divides : {h a whole : ℕ} → First s ws h a → First s ws (length ws) whole → h ≤ length ws → QuotientFits v a whole
   unfolding weight
-  first-divides {h} {a} {whole} f g l = record {
+  first-fits {h} {a} {whole} f g l = record {
     some = rw (first-is g) (taken-some (length ws) every (at ws) (omega (arith, p .inside)));
     part = rw (first-is f, first-is g) (sum-up weight l);
     volume = p .volume;
@@ -40,7 +40,7 @@ module _ {v s : ℕ} {ws : List ℕ} {place : ℕ} (p : Placed v s ws place) whe
     unfolding weight
     place-up =
         rw (first-is f, first-is g, add-one)
-        (portion-up v (sumTo weight place) (weight place) whole (first-divides f i (omega (arith, p .inside)) .some))
+        (portion-up v (sumTo weight place) (weight place) whole (first-fits f i (omega (arith, p .inside)) .some))
 
     pub place-is : portion v after whole - portion v before whole ≡ at (shares v ws) place
     unfolding weight sharesOver

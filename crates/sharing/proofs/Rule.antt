@@ -11,12 +11,12 @@ use lib.Dec.{eqb, leb}
 use lib.ListN.{length, List·getD-eq-default}
 use Rattle.numbers.specs.Lists.{tab, sumTo, sum, at, padded}
 use Rattle.numbers.proofs.Laws.{sum-tab, sum-same, sum-ones, sum-both, tab-same, length-tab, at-tab, by-cases, both, and-false, cond-most}
-use Rattle.sharing.specs.Shares.{one, others, within, orElse, taken, share, spread, sharesOver, apartAt, sharesApart, shares, every, pastAt, monthFits, weightsFit, shareIn, rowFits, Shared}
-use Rattle.sharing.specs.Underway.{Fits}
+use Rattle.sharing.specs.Shares.{one, others, within, orWeights, taken, share, spread, sharesOver, apartAt, sharesApart, shares, every, pastAt, monthFits, weightsFit, shareIn, rowFits, Shared}
+use Rattle.sharing.specs.Underway.{MonthFits}
 use Rattle.sharing.proofs.Laws.{Near, sum-spread, sum-share, near-share, share-whole, length-spread, at-spread, share-same, spread-same}
 
 -- of two kinds of weights, the sum is that of the kind that counts
-or-sum : (n : ℕ) (w u : ℕ → ℕ) → sumTo (orElse n w u) n ≡ cond (eqb (sumTo w n) 0) (sumTo u n) (sumTo w n)
+or-sum : (n : ℕ) (w u : ℕ → ℕ) → sumTo (orWeights n w u) n ≡ cond (eqb (sumTo w n) 0) (sumTo u n) (sumTo w n)
 or-sum n w u = go (eqb (sumTo w n) 0)
   where
     go : (b : Bool) → sumTo (λ h. cond b (u h) (w h)) n ≡ cond b (sumTo u n) (sumTo w n)
@@ -29,7 +29,7 @@ pub taken-sum : (n : ℕ) (chosen : ℕ → Bool) (w : ℕ → ℕ)
     ≡ cond (eqb (sumTo (within chosen w) n) 0) (cond (eqb (sumTo (within chosen one) n) 0) n (sumTo (within chosen one) n)) (sumTo (within chosen w) n)
 unfolding taken
 taken-sum n chosen w =
-    or-sum n (within chosen w) (orElse n (within chosen one) one)
+    or-sum n (within chosen w) (orWeights n (within chosen one) one)
     ∙ rw (or-sum n (within chosen one) one, sum-ones)
 
 pub taken-some : (n : ℕ) (chosen : ℕ → Bool) (w : ℕ → ℕ) → 0 < n → 0 < sumTo (taken n chosen w) n
@@ -178,7 +178,7 @@ apart-same a b n f g e =
     (share-same b n _ _ (chosen-same n (others f) (others g) one (λ k m. rw (e k m))) h l)
 
 -- numbers that pass the test of the limits are within them
-pub month-fits : {v t room : ℕ} → monthFits v t room ≡ true → Fits v t room
+pub month-fits : {v t room : ℕ} → monthFits v t room ≡ true → MonthFits v t room
 unfolding monthFits
 month-fits {v} {t} {room} e =
     let p = both (leb v 744000000 && leb 1 t && leb t 744) (leb t room) e in

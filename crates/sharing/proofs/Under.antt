@@ -10,13 +10,13 @@ use lib.Dec.{eqb}
 use Rattle.numbers.specs.Lists.{tab, sumTo, zeros, padded, Filled}
 use Rattle.numbers.proofs.Laws.{cond-most, sum-up, sum-most, filled-more, filled-padded}
 use Rattle.sharing.specs.Shares.{one, others, within, taken, share, spread, sharesOver, apartAt, sharesApart, chosenAt}
-use Rattle.sharing.specs.Underway.{started, stepped, Ready, Gains, Gained, Under, Counts, Others}
+use Rattle.sharing.specs.Underway.{started, stepped, Ready, Gains, Gained, Underway, Counts, Others}
 use Rattle.sharing.specs.declared.progress.Progress.{Progress}
 use native.Mathlib.Omega.{arith}
 use Rattle.sharing.proofs.Rule.{taken-sum, taken-some, shares-tab, all-hours}
 use Rattle.sharing.proofs.Laws.{portion-none, portion-most, upTo-up}
 
-pub under-start : {v n s : ℕ} {w : ℕ → ℕ} {p : Progress} → p ≡ started v s → s ≡ sumTo w n → 0 < s → v ≤ 744000000 → s ≤ 2232000000 → Under (p .volume) n w p 0
+pub under-start : {v n s : ℕ} {w : ℕ → ℕ} {p : Progress} → p ≡ started v s → s ≡ sumTo w n → 0 < s → v ≤ 744000000 → s ≤ 2232000000 → Underway (p .volume) n w p 0
 under-start {v} {n} {s} {w} e f some volume weights = rw e record {
   is = rw (f, portion-none);
   some = rw f at some;
@@ -28,7 +28,7 @@ under-start {v} {n} {s} {w} e f some volume weights = rw e record {
 pub under-taken : {v n s k whole : ℕ} {p : Progress} (chosen : ℕ → Bool) (w : ℕ → ℕ)
     → p ≡ started v whole → whole ≡ cond (eqb s 0) (cond (eqb k 0) n k) s
     → s ≡ sumTo (within chosen w) n → k ≡ sumTo (within chosen one) n → 1 ≤ n → n ≤ 744 → v ≤ 744000000 → s ≤ 2232000000
-    → Under (p .volume) n (taken n chosen w) p 0
+    → Underway (p .volume) n (taken n chosen w) p 0
 under-taken {n = n} {s = s} {k = k} chosen w e f g i some hours volume weights =
     let j : _ ≡ sumTo (taken n chosen w) n = f ∙ rw (g, i, taken-sum n chosen w) in
     under-start e j (rw j (taken-some n chosen w some)) volume
@@ -36,22 +36,22 @@ under-taken {n = n} {s = s} {k = k} chosen w e f g i some hours volume weights =
 
 pub under-even : {v n k whole : ℕ} {p : Progress} (chosen : ℕ → Bool)
     → p ≡ started v whole → whole ≡ cond (eqb k 0) (cond (eqb k 0) n k) k → k ≡ sumTo (within chosen one) n → k ≤ n → 1 ≤ n → n ≤ 744 → v ≤ 744000000
-    → Under (p .volume) n (taken n chosen one) p 0
+    → Underway (p .volume) n (taken n chosen one) p 0
 under-even chosen e f g most some hours volume = under-taken chosen one e f g g some hours volume (omega arith)
 
 pub others-count : {chosen : List Bool} {k : ℕ} → Counts chosen k → Others chosen (length chosen - k)
 others-count {chosen} counts = record { is = omega (arith, counts .is, all-hours (chosenAt chosen) (length chosen)) }
 
-module _ {v n : ℕ} {w : ℕ → ℕ} {p : Progress} {h : ℕ} (u : Under v n w p h) where
+module _ {v n : ℕ} {w : ℕ → ℕ} {p : Progress} {h : ℕ} (u : Underway v n w p h) where
   pub under-ready : {x : ℕ} → h < n → x ≡ w h → Ready p x
   under-ready l e = rw (u .is, e) record {
-    divides = record { some = u .some; part = sum-up w l; volume = u .volume; weights = u .weights };
+    quotient = record { some = u .some; part = sum-up w l; volume = u .volume; weights = u .weights };
     done = refl;
   }
 
   -- q is p after hour h, whose weight is x
   module _ {x : ℕ} {q : Progress} (e : x ≡ w h) (f : q ≡ stepped p x) where
-    pub under-more : Under v n w q (h + 1)
+    pub under-more : Underway v n w q (h + 1)
     under-more = record { is = f ∙ rw (u .is, e, add-one); some = u .some; volume = u .volume; weights = u .weights }
 
     pub under-gain : h < n → Gains p q
@@ -69,8 +69,8 @@ module _ {v n : ℕ} {w : ℕ → ℕ} {p : Progress} {h : ℕ} (u : Under v n w
 -- a turn of the loop over two sharings apart
 pub filled-apart : {h i j x y : ℕ} {d l : List ℕ} {p p′ q q′ : Progress} (a b n : ℕ) (chosen : ℕ → Bool)
     → Filled (apartAt a b chosen n) d l h → h < n → n ≤ length d
-    → Under a n (taken n chosen one) p h → x ≡ taken n chosen one h → p′ ≡ stepped p x → Gained p p′ i
-    → Under b n (taken n (others chosen) one) q h → y ≡ taken n (others chosen) one h → q′ ≡ stepped q y → Gained q q′ j
+    → Underway a n (taken n chosen one) p h → x ≡ taken n chosen one h → p′ ≡ stepped p x → Gained p p′ i
+    → Underway b n (taken n (others chosen) one) q h → y ≡ taken n (others chosen) one h → q′ ≡ stepped q y → Gained q q′ j
     → Filled (apartAt a b chosen n) d (set l h (i + j)) (h + 1)
 unfolding apartAt
 filled-apart a b n chosen filled lt le u e f g v o r k =

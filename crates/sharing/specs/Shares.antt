@@ -24,12 +24,12 @@ abbrev pub within : (ℕ → Bool) → (ℕ → ℕ) → ℕ → ℕ
 within chosen w h = cond (chosen h) (w h) 0
 
 -- the weights w, or u where w sums to 0 over the n hours
-abbrev pub orElse : ℕ → (ℕ → ℕ) → (ℕ → ℕ) → ℕ → ℕ
-orElse n w u h = cond (eqb (sumTo w n) 0) (u h) (w h)
+abbrev pub orWeights : ℕ → (ℕ → ℕ) → (ℕ → ℕ) → ℕ → ℕ
+orWeights n w u h = cond (eqb (sumTo w n) 0) (u h) (w h)
 
 -- the weights of n hours as they are taken: those of the chosen hours; where these sum to 0, 1 in each chosen hour; where none is chosen, 1 in every hour
 unfoldable pub taken : ℕ → (ℕ → Bool) → (ℕ → ℕ) → ℕ → ℕ
-taken n chosen w = orElse n (within chosen w) (orElse n (within chosen one) one)
+taken n chosen w = orWeights n (within chosen w) (orWeights n (within chosen one) one)
 
 -- what of v falls before hour h: the weights before it, s(h - 1), out of all, S
 abbrev pub upTo : ℕ → ℕ → (ℕ → ℕ) → ℕ → ℕ

@@ -22,7 +22,7 @@ abbrev pub running : ℕ → ℕ → (ℕ → ℕ) → ℕ → Progress
 running v n w h = record { volume = v; whole = sumTo w n; passed = sumTo w h; done = upTo v n w h }
 
 -- the numbers of a quotient, within the limits
-pub record Divides (v a s : ℕ) : Type 0 where
+pub record QuotientFits (v a s : ℕ) : Type 0 where
   pub some : 0 < s
   pub part : a ≤ s
   pub volume : v ≤ 744000000
@@ -30,7 +30,7 @@ pub record Divides (v a s : ℕ) : Type 0 where
 
 -- what a step needs, so that its numbers fit
 pub record Ready (p : Progress) (x : ℕ) : Type 0 where
-  pub divides : Divides (p .volume) (p .passed + x) (p .whole)
+  pub quotient : QuotientFits (p .volume) (p .passed + x) (p .whole)
   pub done : p .done ≡ portion (p .volume) (p .passed) (p .whole)
 
 -- p and q are a sharing before and after an hour, whose share fits 32 bits
@@ -44,7 +44,7 @@ pub record Gained (p q : Progress) (r : ℕ) : Type 0 where
   pub small : r ≤ 744000000
 
 -- p is the sharing of v over n hours by the weights w before hour h, and its numbers fit
-pub record Under (v n : ℕ) (w : ℕ → ℕ) (p : Progress) (h : ℕ) : Type 0 where
+pub record Underway (v n : ℕ) (w : ℕ → ℕ) (p : Progress) (h : ℕ) : Type 0 where
   pub is : p ≡ running v n w h
   pub some : 0 < sumTo w n
   pub volume : v ≤ 744000000
@@ -65,7 +65,7 @@ pub record Totals (past : List ℕ) (chosen : List Bool) (s k : ℕ) : Type 0 wh
   pub count : k ≡ sumTo (within (chosenAt chosen) one) (length chosen)
 
 -- a volume, a number of hours and a buffer's length within the limits
-pub record Fits (v t size : ℕ) : Type 0 where
+pub record MonthFits (v t size : ℕ) : Type 0 where
   pub volume : v ≤ 744000000
   pub some : 1 ≤ t
   pub hours : t ≤ 744

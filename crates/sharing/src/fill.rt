@@ -3,7 +3,7 @@ ghost use Prim.Native.Nat.{_≤_};
 ghost use lib.ListN.{length};
 ghost use Rattle.numbers.specs.Lists.{Filled};
 ghost use Rattle.sharing.specs.Shares.{one, taken, share, apartAt, pastAt, chosenAt, otherAt};
-ghost use Rattle.sharing.specs.Underway.{Under, Counts, Others, Totals};
+ghost use Rattle.sharing.specs.Underway.{Underway, Counts, Others, Totals};
 use super::progress::Progress;
 use super::progress::gain;
 use super::progress::step;
@@ -21,7 +21,7 @@ pub(crate) fn fill_by_past(
     hours: &mut [u32],
 )
     requires { ⌜ Totals (now past) (now chosen) s k ⌝ }
-    requires { ⌜ Under (p .volume) (length (now chosen)) (taken (length (now chosen)) (chosenAt (now chosen)) (pastAt (now past))) p 0 ⌝ }
+    requires { ⌜ Underway (p .volume) (length (now chosen)) (taken (length (now chosen)) (chosenAt (now chosen)) (pastAt (now past))) p 0 ⌝ }
     requires { ⌜ length (now chosen) ≤ length (now hours) ⌝ }
     ensures { λ _. ⌜
         Filled
@@ -42,7 +42,7 @@ pub(crate) fn fill_by_past(
 // The hours of an even sharing that has not begun.
 pub(crate) fn fill_evenly(k: u64, p: Progress, chosen: &[bool], hours: &mut [u32])
     requires { ⌜ Counts (now chosen) k ⌝ }
-    requires { ⌜ Under (p .volume) (length (now chosen)) (taken (length (now chosen)) (chosenAt (now chosen)) one) p 0 ⌝ }
+    requires { ⌜ Underway (p .volume) (length (now chosen)) (taken (length (now chosen)) (chosenAt (now chosen)) one) p 0 ⌝ }
     requires { ⌜ length (now chosen) ≤ length (now hours) ⌝ }
     ensures { λ _. ⌜
         Filled (share (p .volume) (length (now (chosen .entry))) (taken (length (now (chosen .entry))) (chosenAt (now (chosen .entry))) one))
@@ -69,8 +69,8 @@ pub(crate) fn fill_apart(
     hours: &mut [u32],
 )
     requires { ⌜ Counts (now chosen) k × Others (now chosen) m ⌝ }
-    requires { ⌜ Under (p .volume) (length (now chosen)) (taken (length (now chosen)) (chosenAt (now chosen)) one) p 0 ⌝ }
-    requires { ⌜ Under (q .volume) (length (now chosen)) (taken (length (now chosen)) (otherAt (now chosen)) one) q 0 ⌝ }
+    requires { ⌜ Underway (p .volume) (length (now chosen)) (taken (length (now chosen)) (chosenAt (now chosen)) one) p 0 ⌝ }
+    requires { ⌜ Underway (q .volume) (length (now chosen)) (taken (length (now chosen)) (otherAt (now chosen)) one) q 0 ⌝ }
     requires { ⌜ (length (now chosen) ≤ 744) × (length (now chosen) ≤ length (now hours)) ⌝ }
     ensures { λ _. ⌜
         Filled (apartAt (p .volume) (q .volume) (chosenAt (now (chosen .entry))) (length (now (chosen .entry))))

@@ -6,7 +6,7 @@ ghost use Prim.Native.Nat.{_+_, _≤_};
 ghost use lib.ListN.{length};
 ghost use Rattle.numbers.specs.Lists.{sumTo, padded};
 ghost use Rattle.sharing.specs.Shares.{ones, within, sharesOver, sharesApart, pastAt, stretched, rowPart, rowFits, chosenAt, monthFits, weightsFit, Shared, shareIn};
-ghost use Rattle.sharing.specs.Underway.{Fits};
+ghost use Rattle.sharing.specs.Underway.{MonthFits};
 
 mod fill;
 pub mod place;
@@ -48,7 +48,7 @@ fn both_fit(a: u64, b: u64, t: usize, room: usize) -> bool
 
 // A sharing by the past whose numbers fit.
 fn by_past(v: u64, s: u64, past: &[u32], chosen: &[bool], hours: &mut [u32])
-    requires { ⌜ Fits v (length (now chosen)) (length (now hours)) ⌝ }
+    requires { ⌜ MonthFits v (length (now chosen)) (length (now hours)) ⌝ }
     requires { ⌜ (s ≡ sumTo (within (chosenAt (now chosen)) (pastAt (now past))) (length (now chosen))) × (s ≤ 2232000000) ⌝ }
     ensures { λ _. ⌜
         now (hours .exit)
@@ -118,7 +118,7 @@ pub fn share_by_row(
 
 // An even sharing whose numbers fit.
 fn evenly(v: u64, chosen: &[bool], hours: &mut [u32])
-    requires { ⌜ Fits v (length (now chosen)) (length (now hours)) ⌝ }
+    requires { ⌜ MonthFits v (length (now chosen)) (length (now hours)) ⌝ }
     ensures { λ _. ⌜
         now (hours .exit)
         ≡ padded (length (now (hours .entry))) (sharesOver v (chosenAt (now (chosen .entry))) (ones (length (now (chosen .entry)))))
@@ -148,7 +148,7 @@ pub fn share_evenly(volume: Kwh, chosen: &[bool], hours: &mut [u32]) -> bool
 
 // Two even sharings whose numbers fit.
 fn apart(a: u64, b: u64, chosen: &[bool], hours: &mut [u32])
-    requires { ⌜ Fits (a + b) (length (now chosen)) (length (now hours)) ⌝ }
+    requires { ⌜ MonthFits (a + b) (length (now chosen)) (length (now hours)) ⌝ }
     ensures { λ _. ⌜
         now (hours .exit)
         ≡ padded (length (now (hours .entry))) (sharesApart a b (chosenAt (now (chosen .entry))) (length (now (chosen .entry))))

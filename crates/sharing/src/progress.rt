@@ -1,7 +1,7 @@
 // A sharing under way, from hour to hour.
 ghost use mathlib.Core.Path.{_≡_};
 ghost use Rattle.sharing.specs.Shares.{portion};
-ghost use Rattle.sharing.specs.Underway.{started, stepped, Divides, Ready, Gains, Gained};
+ghost use Rattle.sharing.specs.Underway.{started, stepped, QuotientFits, Ready, Gains, Gained};
 
 // A sharing under way: the volume V, the sum S of all weights, and of both what the hours so far have.
 pub struct Progress {
@@ -13,7 +13,7 @@ pub struct Progress {
 
 // The quotient of the rule: what of v falls to weights of a out of s.
 pub(crate) fn portion_of(v: u64, a: u64, s: u64) -> u64
-    requires { ⌜ Divides v a s ⌝ }
+    requires { ⌜ QuotientFits v a s ⌝ }
     ensures { λ r. ⌜ r ≡ portion v a s ⌝ }
 {
     v * a / s

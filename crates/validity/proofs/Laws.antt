@@ -19,24 +19,24 @@ use Rattle.record.specs.Record.{isSet, notGiven, givenAs, noReadings}
 use Rattle.validity.specs.Valid.{allFrom, allOf, contractTests, serviceTests, yearFits, latestInRow, pastTests, readingTests, readingsTests, volumeLimit, recordTests, valid}
 
 -- every test of a list, one by one
-abbrev pub Each : List Bool → Type 0
-Each [] = Unit {0}
-Each (t ∷ ts) = (t ≡ true) × Each ts
+abbrev pub EachTest : List Bool → Type 0
+EachTest [] = Unit {0}
+EachTest (t ∷ ts) = (t ≡ true) × EachTest ts
 
 first-held : (so : Bool) (ts : List Bool) → allFrom so ts ≡ true → so ≡ true
 first-held so [] h = h
 first-held true (t ∷ ts) h = refl
 first-held false (t ∷ ts) h = first-held false ts h
 
-each-from : (so : Bool) (ts : List Bool) → allFrom so ts ≡ true → Each ts
+each-from : (so : Bool) (ts : List Bool) → allFrom so ts ≡ true → EachTest ts
 each-from so [] h = tt
 each-from true (t ∷ ts) h = (first-held t ts h, each-from t ts h)
 each-from false (t ∷ ts) h = absurd (false≢true (first-held false ts h))
 
-pub each : (ts : List Bool) → allOf ts ≡ true → Each ts
-each ts h = each-from true ts h
+pub each-test : (ts : List Bool) → allOf ts ≡ true → EachTest ts
+each-test ts h = each-from true ts h
 
-pub all : (ts : List Bool) → Each ts → allOf ts ≡ true
+pub all : (ts : List Bool) → EachTest ts → allOf ts ≡ true
 all [] e = refl
 all (true ∷ ts) e = all ts (e .1)
 all (false ∷ ts) e = absurd (false≢true (e .0))
@@ -54,7 +54,7 @@ pub record Valid (r : Record) : Type 0 where
 pub valid-parts : (r : Record) → valid r ≡ true → Valid r
 unfolding valid
 valid-parts r h =
-    let e = each (recordTests r) h in
+    let e = each-test (recordTests r) h in
     record {
       opened = e .0;
       contract = e .1 .0;
@@ -79,7 +79,7 @@ pub record ServiceFits (s : Service) (d : Date) : Type 0 where
 
 pub service-parts : (s : Service) (d : Date) → allOf (serviceTests s d) ≡ true → ServiceFits s d
 service-parts s d h =
-    let e = each (serviceTests s d) h in
+    let e = each-test (serviceTests s d) h in
     record {
       run = leb-true _ _ (e .0);
       serving = leb-true _ _ (e .1 .0);
@@ -114,7 +114,7 @@ pub record PastFits (p : Past) (d : Date) : Type 0 where
 
 pub past-parts : (p : Past) (d : Date) → allOf (pastTests p d) ≡ true → PastFits p d
 past-parts p d h =
-    let e = each (pastTests p d) h in
+    let e = each-test (pastTests p d) h in
     record { years = e .0; latest = e .1 .0; row = e .1 .1 .0 }
 
 pub past-from : (p : Past) (d : Date) → PastFits p d → allOf (pastTests p d) ≡ true
@@ -129,7 +129,7 @@ pub record ReadingsFit (g : Readings) (c : Contract) (limit : ℕ) : Type 0 wher
 
 pub readings-parts : (g : Readings) (c : Contract) (limit : ℕ) → allOf (readingsTests g c limit) ≡ true → ReadingsFit g c limit
 readings-parts g c limit h =
-    let e = each (readingsTests g c limit) h in
+    let e = each-test (readingsTests g c limit) h in
     record { billing = e .0; control = e .1 .0; first = e .1 .1 .0; second = e .1 .1 .1 .0 }
 
 pub readings-from : (g : Readings) (c : Contract) (limit : ℕ) → ReadingsFit g c limit → allOf (readingsTests g c limit) ≡ true

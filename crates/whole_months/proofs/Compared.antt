@@ -5,7 +5,7 @@ use Prim.Native.Nat.{ℕ}
 use lib.ListN.{set}
 use Rattle.numbers.specs.Lists.{zeros}
 use Rattle.record.specs.Record.{kwh, givenAs, noReadings, freshService, withServing, withDenials, withControl, withFirst}
-use Rattle.rules.specs.Rules.{missing, hourly, whole, none, some}
+use Rattle.rules.specs.Rules.{missing, hourly, whole, noPastHours, pastHours}
 use Rattle.model.specs.Model.{state}
 use Rattle.reasons.specs.Reasons.{comparedIn, reasonsOf}
 use Rattle.reasons.proofs.Examples.{on, contract, january, working}
@@ -19,10 +19,10 @@ row = set (set (zeros 744) 10 5) 20 15
 
 -- V 16 by the past gives hour 10 a quarter; C' is 0 with R 2, without peak hours, without a past, with N above K, and with any other reading
 sums :
-    (comparedIn (january marked 3 missing (whole 20) 4 (some row)) ≡ 4) × (comparedIn (january marked 2 missing (whole 20) 4 (some row)) ≡ 0)
-    × (comparedIn (january (set (zeros 744) 10 2) 3 missing (whole 20) 4 (some row)) ≡ 0) × (comparedIn (january marked 3 missing (whole 20) 4 none) ≡ 0)
-    × (comparedIn (january marked 3 missing (whole 20) 24 (some row)) ≡ 0) × (comparedIn (january marked 3 (whole 20) (whole 20) 4 (some row)) ≡ 0)
-    × (comparedIn (january marked 3 missing (hourly row) 4 (some row)) ≡ 0) × (comparedIn (january marked 3 missing missing 4 (some row)) ≡ 0)
+    (comparedIn (january marked 3 missing (whole 20) 4 (pastHours row)) ≡ 4) × (comparedIn (january marked 2 missing (whole 20) 4 (pastHours row)) ≡ 0)
+    × (comparedIn (january (set (zeros 744) 10 2) 3 missing (whole 20) 4 (pastHours row)) ≡ 0) × (comparedIn (january marked 3 missing (whole 20) 4 noPastHours) ≡ 0)
+    × (comparedIn (january marked 3 missing (whole 20) 24 (pastHours row)) ≡ 0) × (comparedIn (january marked 3 (whole 20) (whole 20) 4 (pastHours row)) ≡ 0)
+    × (comparedIn (january marked 3 missing (hourly row) 4 (pastHours row)) ≡ 0) × (comparedIn (january marked 3 missing missing 4 (pastHours row)) ≡ 0)
 unfolding working
 sums = (refl, refl, refl, refl, refl, refl, refl, refl)
 

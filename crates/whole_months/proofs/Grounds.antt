@@ -3,10 +3,10 @@ use mathlib.Core.Path.{_≡_, refl}
 use lib.ListN.{set}
 use Rattle.numbers.specs.Lists.{zeros}
 use Rattle.rules.specs.Rules.{missing, whole, asRead, figures}
-use Rattle.rules.proofs.Examples.{agreed, january, marked, past, Gives, working}
+use Rattle.rules.proofs.Examples.{agreed, january, marked, past, GroundAndVolume, working}
 
 -- A 1, n 1, d 1, C' 7: by the past; with P 7, A 7: the peak rule
-ground-6 : Gives (january (agreed 1) marked 3 missing (whole 9) 2 past) 6 7 × Gives (january (agreed 7) marked 3 missing (whole 9) 2 past) 5 7
+ground-6 : GroundAndVolume (january (agreed 1) marked 3 missing (whole 9) 2 past) 6 7 × GroundAndVolume (january (agreed 7) marked 3 missing (whole 9) 2 past) 5 7
 unfolding working
 ground-6 = ((refl, refl), (refl, refl))
 

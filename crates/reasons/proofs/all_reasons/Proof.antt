@@ -5,7 +5,7 @@ use mathlib.Core.Path.{ap, _∙_}
 use Rattle.calendar.specs.Calendar.{openHours}
 use Rattle.sharing.specs.Shares.{rowPart}
 use Rattle.model.specs.Model.{inputs}
-use Rattle.choice.proofs.Laws.{known, peaks-are}
+use Rattle.first_ground.proofs.Laws.{known, peaks-are}
 use Rattle.marks.specs.declared.Survey.{Survey}
 use Rattle.reasons.specs.Reasons.{reasonsOf}
 use Rattle.reasons.proofs.all_reasons.Statement.{statement}

@@ -2,7 +2,7 @@
 use borrow.Author.Needs.{needs}
 use mathlib.Core.Path.{_∙_}
 use native.Mathlib.Omega.{arith}
-use Rattle.rows.proofs.Laws.{written-in}
+use Rattle.store.proofs.Laws.{written-in}
 use Rattle.closing.proofs.after.keep_hours.Statement.{statement}
 use Rattle.closing.proofs.after.keep_hours.Tie as tie
 

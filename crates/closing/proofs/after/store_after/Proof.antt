@@ -2,7 +2,7 @@
 use borrow.Author.Needs.{needs}
 use denote.Ref.{now}
 use Rattle.calendar.proofs.Laws.{limits}
-use Rattle.model.proofs.Closes.{slot-row}
+use Rattle.model.proofs.Closes.{row-few}
 use Rattle.closing.proofs.Leaves.{store-is}
 use Rattle.closing.proofs.after.store_after.Statement.{statement}
 use Rattle.closing.proofs.after.store_after.Tie as tie
@@ -13,7 +13,7 @@ store-after-spec =
     (tie.spec
     (λ c. limits _ (c .before .before .before .pre .1) .first)
     (λ c. search needs)
-    (λ c κs. let p = c .before .before .before .before .pre in (p .0, slot-row _ (p .1), p .2))
+    (λ c κs. let p = c .before .before .before .before .pre in (p .0, row-few _ (p .1), p .2))
     (λ c κs. search needs)
     (λ c κs. search needs)
     (λ c. search needs)

@@ -1,7 +1,7 @@
 -- `grounds::as_past` meets its contract. Assumes nothing.
 use borrow.Author.Needs.{needs}
 use denote.Ref.{now}
-use Rattle.grounds.proofs.Laws.{past-hands}
+use Rattle.grounds.proofs.Laws.{past-found}
 use Rattle.grounds.proofs.hours.as_past.Statement.{statement}
 use Rattle.grounds.proofs.hours.as_past.Tie as tie
 
@@ -19,4 +19,4 @@ as-past-spec =
     (λ c κs. search needs)
     (λ c κs. search needs)
     (λ c. search needs)
-    (λ c. let p = c .before .before .before .before .before .before .before .before .before .before .before .before .before in let a = p .args in past-hands _ (now (a .store)) (a .row) (a .past) (a .t) (now (a .hours)) (p .pre .0) (c .before .before .before .before .before .before .before .before .before .clear .ensures) (c .before .before .before .before .copy-past .ensures) (c .sum-first .ensures)))
+    (λ c. let p = c .before .before .before .before .before .before .before .before .before .before .before .before .before in let a = p .args in past-found _ (now (a .store)) (a .row) (a .past) (a .t) (now (a .hours)) (p .pre .0) (c .before .before .before .before .before .before .before .before .before .clear .ensures) (c .before .before .before .before .copy-past .ensures) (c .sum-first .ensures)))

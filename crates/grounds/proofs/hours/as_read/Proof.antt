@@ -1,7 +1,7 @@
 -- `grounds::as_read` meets its contract. Assumes nothing.
 use borrow.Author.Needs.{needs}
 use denote.Ref.{now}
-use Rattle.grounds.proofs.Laws.{read-hands}
+use Rattle.grounds.proofs.Laws.{read-found}
 use Rattle.grounds.proofs.hours.as_read.Statement.{statement}
 use Rattle.grounds.proofs.hours.as_read.Tie as tie
 
@@ -12,4 +12,4 @@ as-read-spec =
     (λ c κs. search needs)
     (λ c κs. search needs)
     (λ c. search needs)
-    (λ c. let p = c .before .before .before .before .before .before .before .before in let a = p .args in read-hands _ (now (a .store)) (a .row) (a .t) (now (a .hours)) (p .pre .0) (p .pre .1) (c .before .before .before .before .read-row .ensures) (c .sum-first .ensures)))
+    (λ c. let p = c .before .before .before .before .before .before .before .before in let a = p .args in read-found _ (now (a .store)) (a .row) (a .t) (now (a .hours)) (p .pre .0) (p .pre .1) (c .before .before .before .before .read-row .ensures) (c .sum-first .ensures)))

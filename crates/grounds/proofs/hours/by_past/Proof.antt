@@ -1,7 +1,7 @@
 -- `grounds::by_past` meets its contract. Assumes nothing.
 use borrow.Author.Needs.{needs}
 use denote.Ref.{now}
-use Rattle.grounds.proofs.Laws.{shares-hands}
+use Rattle.grounds.proofs.Laws.{shares-found}
 use Rattle.grounds.proofs.hours.by_past.Statement.{statement}
 use Rattle.grounds.proofs.hours.by_past.Tie as tie
 
@@ -14,4 +14,4 @@ by-past-spec =
     (λ c. search needs)
     (λ c κs. search needs)
     (λ c. search needs)
-    (λ c. let p = c .before .before .before .before .before .before .before .before in let a = p .args in shares-hands _ (a .volume .0) (now (a .store)) (a .row) (a .past) (a .t) (now (a .hours)) (p .pre .0 .0) (p .pre .0 .1) (p .pre .0 .2) (p .pre .1 .0) (p .pre .1 .1) (c .before .before .share-by-row .ensures)))
+    (λ c. let p = c .before .before .before .before .before .before .before .before in let a = p .args in shares-found _ (a .volume .0) (now (a .store)) (a .row) (a .past) (a .t) (now (a .hours)) (p .pre .0 .0) (p .pre .0 .1) (p .pre .0 .2) (p .pre .1 .0) (p .pre .1 .1) (c .before .before .share-by-row .ensures)))

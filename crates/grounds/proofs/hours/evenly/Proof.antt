@@ -1,7 +1,7 @@
 -- `grounds::evenly` meets its contract. Assumes nothing.
 use borrow.Author.Needs.{needs}
 use denote.Ref.{now}
-use Rattle.grounds.proofs.Laws.{even-hands}
+use Rattle.grounds.proofs.Laws.{even-found}
 use Rattle.grounds.proofs.hours.evenly.Statement.{statement}
 use Rattle.grounds.proofs.hours.evenly.Tie as tie
 
@@ -14,4 +14,4 @@ evenly-spec =
     (λ c. search needs)
     (λ c κs. search needs)
     (λ c. search needs)
-    (λ c. let p = c .before .before .before .before .before .before .before in let a = p .args in even-hands _ (a .volume .0) (a .t) (now (a .hours)) (p .pre .0) (p .pre .1) (p .pre .2) (p .pre .3) (c .before .before .share-evenly .ensures)))
+    (λ c. let p = c .before .before .before .before .before .before .before in let a = p .args in even-found _ (a .volume .0) (a .t) (now (a .hours)) (p .pre .0) (p .pre .1) (p .pre .2) (p .pre .3) (c .before .before .share-evenly .ensures)))

@@ -1,7 +1,7 @@
 -- `grounds::find_past` meets its contract. Assumes nothing.
 use borrow.Author.Needs.{needs}
 use native.Mathlib.Omega.{arith}
-use Rattle.grounds.proofs.PastMonths.{month-limits, year-some, month-some, row-some, latest-date, past-year, past-none, past-latest, latest-month}
+use Rattle.grounds.proofs.PastMonths.{month-limits, year-some, month-some, row-some, latest-date, found-year, found-none, found-latest, latest-month}
 use Rattle.grounds.proofs.past.find_past.Statement.{statement}
 use Rattle.grounds.proofs.past.find_past.Tie as tie
 
@@ -15,8 +15,8 @@ find-past-spec =
     (λ c. search needs)
     (λ c. row-some _ (c .before .before .before .before .pre))
     (λ c κs. let h = month-limits _ (c .before .before .before .before .before .before .pre) in (omega arith, omega arith))
-    (λ c. let p = c .before .before .before .before .before .before .before in rw (c .in-row .ensures) (past-year _ (p .pre) (c .before .if1 .taken)))
-    (λ c. past-none _ (c .before .if1 .left) (c .if2 .taken))
+    (λ c. let p = c .before .before .before .before .before .before .before in rw (c .in-row .ensures) (found-year _ (p .pre) (c .before .if1 .taken)))
+    (λ c. found-none _ (c .before .if1 .left) (c .if2 .taken))
     (λ c κs. search needs)
     (λ c κs. rw (c .date-of .ensures, latest-date _ (c .before .before .before .before .before .before .before .before .pre) (c .before .if2 .left)) (latest-month _))
-    (λ c. let p = c .before .before .before .before .before .before .before .before .before in rw (c .in-row2 .ensures, c .before .date-of .ensures, latest-date _ (p .pre) (c .before .before .if2 .left)) (past-latest _ (c .before .before .before .if1 .left) (c .before .before .if2 .left))))
+    (λ c. let p = c .before .before .before .before .before .before .before .before .before in rw (c .in-row2 .ensures, c .before .date-of .ensures, latest-date _ (p .pre) (c .before .before .if2 .left)) (found-latest _ (c .before .before .before .if1 .left) (c .before .before .if2 .left))))

@@ -5,7 +5,7 @@ use lib.ListN.{length}
 use Rattle.numbers.specs.Lists.{Filled}
 use Rattle.numbers.proofs.Laws.{filled-none, filled-end}
 use Rattle.sharing.specs.Shares.{one, taken, apartAt, chosenAt, otherAt}
-use Rattle.sharing.specs.Underway.{Under}
+use Rattle.sharing.specs.Underway.{Underway}
 use Rattle.sharing.proofs.Under.{under-ready, under-more, under-gain, filled-apart}
 use Rattle.sharing.proofs.fill.fill_apart.Statement.{statement}
 use Rattle.sharing.proofs.fill.fill_apart.Tie as tie
@@ -15,8 +15,8 @@ Inv-loop k m chosen hours₀ a₀ b₀ h₀ hours a b h =
     (h ≤ length chosen)
     × (length chosen ≤ 744)
     × (length chosen ≤ length hours₀)
-    × Under (a₀ .volume) (length chosen) (taken (length chosen) (chosenAt chosen) one) a h
-    × Under (b₀ .volume) (length chosen) (taken (length chosen) (otherAt chosen) one) b h
+    × Underway (a₀ .volume) (length chosen) (taken (length chosen) (chosenAt chosen) one) a h
+    × Underway (b₀ .volume) (length chosen) (taken (length chosen) (otherAt chosen) one) b h
     × Filled (apartAt (a₀ .volume) (b₀ .volume) (chosenAt chosen) (length chosen)) hours₀ hours h
 
 abbrev μ-loop : tie.MeasureT-loop

@@ -5,7 +5,7 @@ use lib.ListN.{length}
 use Rattle.numbers.specs.Lists.{Filled}
 use Rattle.numbers.proofs.Laws.{filled-none, filled-end}
 use Rattle.sharing.specs.Shares.{one, taken, share, chosenAt}
-use Rattle.sharing.specs.Underway.{Under}
+use Rattle.sharing.specs.Underway.{Underway}
 use Rattle.sharing.proofs.Under.{under-ready, under-more, under-gain, filled-share}
 use Rattle.sharing.proofs.fill.fill_evenly.Statement.{statement}
 use Rattle.sharing.proofs.fill.fill_evenly.Tie as tie
@@ -14,7 +14,7 @@ abbrev Inv-loop : tie.InvT-loop
 Inv-loop k chosen hours₀ at₀ h₀ hours at h =
     (h ≤ length chosen)
     × (length chosen ≤ length hours₀)
-    × Under (at₀ .volume) (length chosen) (taken (length chosen) (chosenAt chosen) one) at h
+    × Underway (at₀ .volume) (length chosen) (taken (length chosen) (chosenAt chosen) one) at h
     × Filled (share (at₀ .volume) (length chosen) (taken (length chosen) (chosenAt chosen) one)) hours₀ hours h
 
 abbrev μ-loop : tie.MeasureT-loop

@@ -1,0 +1,21 @@
+-- `first_ground::by_contract` meets its contract. Assumes nothing.
+use borrow.Author.Needs.{needs}
+use Rattle.model.specs.Model.{state, inputs}
+use denote.Ref.{now}
+use Rattle.first_ground.proofs.Firsts.{nine-gives, eight-gives}
+use Rattle.first_ground.proofs.Laws.{known}
+use Rattle.first_ground.proofs.by_contract.Statement.{statement}
+use Rattle.first_ground.proofs.by_contract.Tie as tie
+
+pub by-contract-spec : {M : Type 1} → statement M
+unfolding inputs
+by-contract-spec =
+    tie.close
+    (tie.spec
+    (λ c κs. search needs)
+    (λ c κs. let k = known _ _ _ _ (c .before .before .before .before .before .before .before .pre) in rw (c .before .before .before .open-hours .ensures) (k .cable (c .before .if1 .taken), k .buffers .some, k .buffers .few, k .buffers .room))
+    (λ c. search needs)
+    (λ c. let a = c .before .before .before .before .before .before .before .before .before .before .args in nine-gives (inputs (state (a .r) (now (a .store))) (now (a .marks))) (c .before .before .before .before .if1 .taken) (c .before .before .before .before .before .before .open-hours .ensures) (c .before .before .ground-nine .ensures))
+    (λ c κs. let k = known _ _ _ _ (c .before .before .before .before .before .before .before .pre) in rw (c .before .before .before .open-hours .ensures) (k .power, k .buffers .some, k .buffers .few, k .buffers .room))
+    (λ c. search needs)
+    (λ c. let a = c .before .before .before .before .before .before .before .before .before .before .args in eight-gives (inputs (state (a .r) (now (a .store))) (now (a .marks))) (c .before .before .before .before .if1 .left) (c .before .before .before .before .before .before .open-hours .ensures) (c .before .before .ground-eight .ensures)))

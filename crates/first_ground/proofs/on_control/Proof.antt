@@ -1,0 +1,25 @@
+-- `first_ground::on_control` meets its contract. Assumes nothing.
+use borrow.Author.Needs.{needs}
+use denote.Ref.{now}
+use Rattle.model.specs.Model.{state, inputs}
+use Rattle.first_ground.proofs.Firsts.{three-gives, volume-gives, past-gives, is-hourly, is-whole, is-missing}
+use Rattle.first_ground.proofs.Laws.{known}
+use Rattle.first_ground.proofs.on_control.Statement.{statement}
+use Rattle.first_ground.proofs.on_control.Tie as tie
+
+pub on-control-spec : {M : Type 1} → statement M
+unfolding inputs
+on-control-spec =
+    tie.close
+    (tie.spec
+    (λ c κs. search needs)
+    (λ c. search needs)
+    (λ c κs. let k = known _ _ _ _ (c .before .before .before .before .before .before .before .before .before .pre .0) in rw (c .before .open-hours .ensures) (k .buffers))
+    (λ c. search needs)
+    (λ c. let a = c .before .before .before .before .before .before .before .before .before .before .before .before .args in let i = inputs (state (a .r) (now (a .store))) (now (a .marks)) in three-gives i _ (is-hourly _ _ _ (c .before .before .before .before .before .before .before .if1 .taken) (c .before .before .before .before .before .if2 .taken)) (rw (c .before .before .before .before .open-hours .ensures) at (c .before .before .ground-three .ensures)))
+    (λ c κs. search needs)
+    (λ c. search needs)
+    (λ c. let a = c .before .before .before .before .before .before .before .before .before .before .before .args in let i = inputs (state (a .r) (now (a .store))) (now (a .marks)) in volume-gives i _ (is-whole _ _ _ (c .before .before .before .before .before .before .if1 .taken) (c .before .before .before .before .if2 .left)) (c .before .before .on-control-volume .ensures))
+    (λ c κs. search needs)
+    (λ c. search needs)
+    (λ c. let a = c .before .before .before .before .before .before .before .before .before .args in let i = inputs (state (a .r) (now (a .store))) (now (a .marks)) in past-gives i (is-missing _ _ _ (c .before .before .before .before .if1 .left)) (c .before .before .on-past .ensures)))

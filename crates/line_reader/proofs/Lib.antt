@@ -1,0 +1,4 @@
+pub mod Ends
+pub mod Examples
+pub mod Parts
+pub mod Finished

@@ -1,0 +1,223 @@
+// One line of a history file (docs/HISTORY-FILE.md): from its bytes to a call and its arguments, or to an error with its
+// place. A line is read token by token; each token takes the line from one mode, which says what is expected, to the next.
+ghost use mathlib.Core.Path.{_≡_};
+ghost use Rattle.line_reader.specs.Lines.{freshLine, afterToken, afterTokenInCall, nextToken, lineRead, readToken, readLine};
+
+mod arguments;
+mod buffers;
+mod changes;
+mod lists;
+pub mod names;
+mod words;
+
+use arguments::in_argument;
+use arguments::in_call;
+use arguments::in_dash;
+use arguments::in_form;
+use arguments::in_last;
+use arguments::in_value;
+pub use arguments::value_of;
+use buffers::write;
+use changes::fail;
+use line_tokens::FOREIGN;
+use line_tokens::LONG;
+use line_tokens::Token;
+use line_tokens::token_at;
+use lists::in_counted;
+use lists::in_day;
+use lists::in_group;
+use lists::in_list;
+
+// The list of numbers that a line brings, as far as it is read: the largest number that it takes; how many numbers it has,
+// and how many stand between the parentheses that are open; the count that was read last, and that of the parentheses;
+// 0 outside parentheses, 1 between those of a repetition, 2 and 3 between those of a week; whether a part is still
+// missing. The last two say what the token adds: see `buffers`.
+pub struct Numbers {
+    pub limit: u64,
+    pub count: u32,
+    pub inner: u32,
+    pub times: u32,
+    pub repeat: u32,
+    pub depth: u32,
+    pub fresh: u32,
+    pub action: u32,
+    pub value: u32,
+}
+
+// A line as far as it is read: what is expected next, and where; the call, 0 for none; the error, 0 for none, and the
+// place of its token from 0; the argument that is read, the values of the arguments, and the list.
+pub struct Line {
+    pub mode: u32,
+    pub at: usize,
+    pub call: u32,
+    pub error: u32,
+    pub place: usize,
+    pub key: u32,
+    pub values: [u64; 15],
+    pub numbers: Numbers,
+}
+
+// What a line expects next: a call, the value of an argument, the - of a month, an argument, `hours` or `volume`, a part of
+// a list, an item between parentheses, what a count repeats, the parenthesis of a day, the end; and what ends it: a call or
+// nothing, or an error.
+pub const CALL: u32 = 0;
+
+pub const VALUE: u32 = 1;
+
+pub const MONTH_DASH: u32 = 2;
+
+pub const ARGUMENT: u32 = 3;
+
+pub const FORM: u32 = 4;
+
+pub const LIST: u32 = 5;
+
+pub const GROUP: u32 = 6;
+
+pub const COUNTED: u32 = 7;
+
+pub const DAY: u32 = 8;
+
+pub const LAST: u32 = 9;
+
+pub const DONE: u32 = 10;
+
+pub const FAILED: u32 = 11;
+
+// The value of an argument that is not given.
+pub const ABSENT: u64 = 18446744073709551615;
+
+// A line of which nothing is read.
+pub fn fresh_line() -> Line
+    ensures { λ r. ⌜ r ≡ freshLine ⌝ }
+{
+    let numbers = Numbers {
+        limit: 4294967295,
+        count: 0,
+        inner: 0,
+        times: 0,
+        repeat: 0,
+        depth: 0,
+        fresh: 1,
+        action: 0,
+        value: 0,
+    };
+    Line {
+        mode: CALL,
+        at: 0,
+        call: 0,
+        error: 0,
+        place: 0,
+        key: 0,
+        values: [ABSENT; 15],
+        numbers: numbers,
+    }
+}
+
+// What a token does to a line that is not finished. `hours` is T of the open month.
+fn step(s: Line, t: Token, hours: u32) -> Line
+    ensures { λ r. ⌜ r ≡ afterToken hours s t ⌝ }
+{
+    if t.kind == FOREIGN {
+        return fail(s, 2, t.from);
+    }
+    if t.kind == LONG {
+        return fail(s, 13, t.from);
+    }
+    if s.mode == LIST {
+        return in_list(s, t);
+    }
+    if s.mode == GROUP {
+        return in_group(s, t, hours);
+    }
+    if s.mode == COUNTED {
+        return in_counted(s, t);
+    }
+    if s.mode == DAY {
+        return in_day(s, t);
+    }
+    step_in_call(s, t)
+}
+
+// The same outside lists.
+fn step_in_call(s: Line, t: Token) -> Line
+    ensures { λ r. ⌜ r ≡ afterTokenInCall s t ⌝ }
+{
+    if s.mode == CALL {
+        return in_call(s, t);
+    }
+    if s.mode == VALUE {
+        return in_value(s, t);
+    }
+    if s.mode == MONTH_DASH {
+        return in_dash(s, t);
+    }
+    if s.mode == ARGUMENT {
+        return in_argument(s, t);
+    }
+    if s.mode == FORM {
+        return in_form(s, t);
+    }
+    in_last(s, t)
+}
+
+// The line behind a token, with what it adds to the list still to be written.
+fn next(line: &[u8], s: Line, hours: u32) -> Line
+    ensures { λ r. ⌜ r ≡ nextToken hours (now (line .entry)) s ⌝ }
+{
+    let mut still = s;
+    still.numbers.action = 0;
+    let t = token_at(line, s.at);
+    let mut r = step(still, t, hours);
+    r.at = t.to;
+    r
+}
+
+// One token more, and what it adds to the list. A line that is finished stays.
+fn turn(
+    line: &[u8],
+    s: Line,
+    hours: u32,
+    first: u32,
+    numbers: &mut [u32],
+    group: &mut [u32],
+) -> Line
+    ensures { λ r. ⌜
+        lineRead r (now (numbers .exit)) (now (group .exit))
+        ≡ readToken hours first (now (line .entry)) (lineRead s (now (numbers .entry)) (now (group .entry)))
+        ⌝ }
+{
+    if DONE <= s.mode {
+        return s;
+    }
+    let r = next(line, s, hours);
+    let before = s.numbers;
+    let after = r.numbers;
+    write(before, after, first, numbers, group);
+    r
+}
+
+// Reads a line: the call and its arguments, or the error, and its list into `numbers`. `hours` is T of the open month and
+// `first` the day of the week of its first day, Monday 0. `group` is room for numbers between parentheses.
+pub fn read_line(
+    line: &[u8],
+    hours: u32,
+    first: u32,
+    numbers: &mut [u32],
+    group: &mut [u32],
+) -> Line
+    ensures { λ r. ⌜
+        lineRead r (now (numbers .exit)) (now (group .exit)) ≡ readLine hours first (now (line .entry)) (now (numbers .entry)) (now (group .entry))
+        ⌝ }
+{
+    let mut s = fresh_line();
+    let mut left = line.len();
+    while 0 < left {
+        if DONE <= s.mode {
+            return s;
+        }
+        s = turn(line, s, hours, first, numbers, group);
+        left -= 1;
+    }
+    turn(line, s, hours, first, numbers, group)
+}

@@ -1,0 +1,18 @@
+use borrow.Author.Needs.{needs}
+use Rattle.line_tokens.specs.Tokens.{wordToken}
+use Rattle.line_tokens.proofs.word_token.Statement.{statement}
+use Rattle.line_tokens.proofs.word_token.Tie as tie
+
+returns : tie.Need-returns
+unfolding wordToken
+returns c = rw (c .pick-wide .ensures, c .before .value .ensures, c .before .before .size-above .ensures, c .before .before .before .span .ensures)
+
+pub word-token-spec : {M : Type 1} → statement M
+word-token-spec =
+    tie.close
+    (tie.spec
+    (λ c κs. search needs)
+    (λ c κs. search needs)
+    (λ c κs. search needs)
+    (λ c κs. search needs)
+    returns)

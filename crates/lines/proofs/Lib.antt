@@ -1,4 +1,0 @@
-pub mod Ends
-pub mod Examples
-pub mod Parts
-pub mod Turns
