@@ -3,7 +3,8 @@ ghost use mathlib.Core.Path.{_≡_};
 ghost use mathlib.Core.Bool.{_&&_};
 ghost use lib.ListN.{length};
 ghost use Rattle.numbers.specs.Lists.{sumTo, noneAbove};
-ghost use Rattle.sharing.specs.Shares.{within, sharesOver, pastAt, stretched, rowPart, rowFits, chosenAt, monthFits, weightsFit, Shared};
+ghost use Rattle.sharing.specs.Shares.{within, sharesOver, pastAt, stretched, chosenAt, monthFits, weightsFit, Shared};
+ghost use Rattle.store.specs.Store.{rowPart, rowFits};
 ghost use Rattle.marks.specs.Peak.{peakRule};
 use units::Kw;
 use units::Kwh;
@@ -26,7 +27,7 @@ pub extern "C" fn bench_share_by_row(
         (now (hours .entry)) (now (hours .exit)) r
         ⌝ }
 {
-    sharing::share_by_row(Kwh(volume), store, row, t, chosen, hours)
+    grounds::past::share_by_row(Kwh(volume), store, row, t, chosen, hours)
 }
 
 #[no_mangle]

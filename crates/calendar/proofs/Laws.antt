@@ -9,7 +9,8 @@ use lib.Dec.{leb, eqb, lit≤}
 use lib.ListN.{length, getD}
 use Rattle.numbers.proofs.Laws.{by-cases, both, first-of}
 use Rattle.calendar.specs.declared.Date.{Date}
-use Rattle.calendar.specs.Calendar.{monthTable, leapYear, isMonth, monthDays, monthHours, isEnd, isOpen, openHours, monthNumber, dateOf, dateIn, nextMonth, nextIn}
+use Rattle.calendar.specs.Calendar.{monthTable, leapYear, isMonth, monthDays, monthHours, isEnd, isOpen, openHours, monthNumber, dateOf}
+use Rattle.calendar.specs.Calendar.{dateIn, nextMonth, nextIn}
 
 -- the limits that isMonth tests
 pub record Limits (d : Date) : Type 0 where

@@ -1,7 +1,8 @@
 use numbers::pick;
 use numbers::wide;
 ghost use mathlib.Core.Path.{_≡_};
-ghost use Rattle.calendar.specs.Calendar.{leapYear, isMonth, monthDays, monthHours, isEnd, isOpen, openHours, monthNumber, isMonthNumber, dateIn, nextIn};
+ghost use Rattle.calendar.specs.Calendar.{leapYear, isMonth, monthDays, monthHours, isEnd, isOpen, openHours, monthNumber, isMonthNumber};
+ghost use Rattle.calendar.specs.Calendar.{dateIn, nextIn};
 
 // A month of a year. Months count from 1, January, to 12, December.
 #[repr(C)]

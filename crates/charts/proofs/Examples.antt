@@ -7,9 +7,9 @@ use lib.ListN.{replicate}
 use Rattle.numbers.specs.Lists.{zeros}
 use Rattle.charts.specs.Charts.{hourOf, daySum, largestDay, reachesAbove}
 
-unfoldable charting : Unit {0}
+unfoldable chartDefinitions : Unit {0}
 unfolding hourOf daySum largestDay reachesAbove
-charting = tt
+chartDefinitions = tt
 
 -- two days: 24 kWh, then 7 in the first hour and 5 in the last; and one hour of a third
 abbrev hours : List ℕ
@@ -31,14 +31,14 @@ sums :
     × (hourOf hours 1 23 ≡ 5)
     × (hourOf hours 2 0 ≡ 100)
     × (hourOf hours 2 1 ≡ 0)
-unfolding charting
+unfolding chartDefinitions
 sums = (refl, refl, refl, refl, refl, refl, refl, refl, refl, refl, refl, refl, refl, refl)
 
 -- of the days that are asked for
 largest :
     (largestDay hours 0 ≡ 0) × (largestDay hours 1 ≡ 24) × (largestDay hours 2 ≡ 24) × (largestDay hours 3 ≡ 100)
     × (largestDay hours 31 ≡ 100) × (largestDay [] 31 ≡ 0)
-unfolding charting
+unfolding chartDefinitions
 largest = (refl, refl, refl, refl, refl, refl)
 
 -- a bar is above row r from more than r fifths of the largest day on; a day without volume has no bar
@@ -59,5 +59,5 @@ bars :
     × (reachesAbove 1 103079215080 0 ≡ true)
     × (reachesAbove 82463372064 103079215080 4 ≡ false)
     × (reachesAbove 82463372065 103079215080 4 ≡ true)
-unfolding charting
+unfolding chartDefinitions
 bars = (refl, refl, refl, refl, refl, refl, refl, refl, refl, refl, refl, refl, refl, refl, refl, refl)

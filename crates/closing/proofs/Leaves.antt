@@ -22,7 +22,8 @@ use Rattle.rules.specs.Calls.{Call, closing}
 use Rattle.rules.specs.Rules.{Outcome, daysIn, rules, becomesPast, figures}
 use Rattle.rules.specs.Right.{Right}
 use Rattle.model.specs.Refusals.{refuse, refuseAnyone, ownRefusal}
-use Rattle.model.specs.Model.{State, state, inputs, pointAfter, storeAfter, closedWith, accept, refusal, accepted, leaves, figuresOf, hoursOut, answer, bufferAfter, Does}
+use Rattle.model.specs.Model.{State, state, inputs, pointAfter, storeAfter, closedWith, accept, refusal, accepted, leaves, figuresOf, hoursOut}
+use Rattle.model.specs.Model.{answer, bufferAfter, Does}
 use Rattle.model.proofs.Closes.{row-few}
 use Rattle.grounds.specs.declared.Found.{Found}
 use Rattle.grounds.specs.Found.{OutcomeFound}
@@ -68,7 +69,8 @@ kept-length false row hours store words few long = words
 
 -- the store that the code leaves
 pub store-is : (new : Bool) (m : Date) (hours store : List ℕ) {a b d : List ℕ} → length store ≡ 10416 → isMonth m ≡ true → length hours ≡ 744
-    → a ≡ cond new (withHours (m .month - 1) hours store) store → b ≡ writtenIn 12 [] a → d ≡ writtenIn 13 [] b → d ≡ storeAfter new hours m store
+    → a ≡ cond new (withHours (m .month - 1) hours store) store → b ≡ writtenIn 12 [] a → d ≡ writtenIn 13 [] b
+    → d ≡ storeAfter new hours m store
 store-is new m hours store {a} {b} words month long e f g =
     let la : length a ≡ 10416 = rw e (kept-length new (m .month - 1) hours store words (row-few m month) long) in
     let fb = f ∙ written-in 12 [] a (lit≤ tt) (lit≤ tt) la in
@@ -87,7 +89,8 @@ unfolding accepted
 is-accepted s c e z = eq-eqb (refusal s c) 0 (sym e ∙ z)
 
 -- the figures that the code works out from the buffer
-figures-are : (u : Outcome) (marks : List ℕ) (t : ℕ) {f : Found} {hours : List ℕ} {c : Kwh} {d : ℕ} {g : Figures} → Right t u → t ≤ 744 → OutcomeFound u f hours
+figures-are : (u : Outcome) (marks : List ℕ) (t : ℕ) {f : Found} {hours : List ℕ} {c : Kwh} {d : ℕ} {g : Figures} → Right t u → t ≤ 744
+    → OutcomeFound u f hours
     → c .0 ≡ capacitySum marks hours → d ≡ daysIn marks
     → g ≡ record { ground = f .ground; volume = f .volume; capacity = record { 0 = capacityIn (c .0) d }; sum = c; days = d } → g ≡ figures u marks
 unfolding figures
@@ -98,7 +101,8 @@ figures-are u marks t {hours = hours} {c = c} right few gives total days e =
     let small : capacitySum marks (u .hours) ≤ 4294967295 = omega (arith, capacity-within marks (u .hours) long, right .sums, right .most) in
     e ∙ rw (same, days, gives .ground, gives .volume, capacity-uncut (capacitySum marks (u .hours)) (daysIn marks) small)
 
-pub closed-does : (s : State) (marks buffer : List ℕ) {number t : ℕ} → number ≡ refusal s (closing marks buffer) → number ≡ 0 → Right t (rules (inputs s marks)) → t ≤ 744
+pub closed-does : (s : State) (marks buffer : List ℕ) {number t : ℕ} → number ≡ refusal s (closing marks buffer) → number ≡ 0
+    → Right t (rules (inputs s marks)) → t ≤ 744
     → {f : Found} {hours store : List ℕ} {c : Kwh} {d : ℕ} {g : Figures} {new : Bool} {r : Record} → OutcomeFound (rules (inputs s marks)) f hours
     → c .0 ≡ capacitySum marks hours → d ≡ daysIn marks
     → g ≡ record { ground = f .ground; volume = f .volume; capacity = record { 0 = capacityIn (c .0) d }; sum = c; days = d }

@@ -4,6 +4,7 @@ ghost use mathlib.Core.Bool.{true, cond};
 ghost use lib.ListN.{length};
 ghost use Prim.Native.Nat.{_≤_};
 ghost use Rattle.calendar.specs.Calendar.{isMonth};
+ghost use Rattle.units.specs.Volumes.{greatestMonthVolume, greatestTotal};
 ghost use Rattle.store.specs.Store.{withHours};
 ghost use Rattle.model.specs.Model.{pastAfter, pointAfter, storeAfter};
 use calendar::Date;
@@ -38,7 +39,7 @@ fn past_after(new: bool, p: Past, d: Date) -> Past
 // The next month opens, with no readings; the total grows by the volume, and the run is 0 where the month becomes the
 // past and else grows by 1.
 pub(crate) fn point_after(r: Record, new: bool, volume: Kwh) -> Record
-    requires { ⌜ (isMonth (r .date) ≡ true) × (r .service .run ≤ 12000) × (r .total .0 ≤ 30000000000000) × (volume .0 ≤ 2232000000) ⌝ }
+    requires { ⌜ (isMonth (r .date) ≡ true) × (r .service .run ≤ 12000) × (r .total .0 ≤ greatestTotal) × (volume .0 ≤ greatestMonthVolume) ⌝ }
     ensures { λ t. ⌜ t ≡ pointAfter new (volume .0) r ⌝ }
 {
     let date = next_month(r.date);

@@ -19,5 +19,6 @@ pub denials-few : {n : ℕ} (words : ℕ) (r : Record) (rest : ℕ) → n ≡ re
 denials-few words r rest e z = denials-most r (passed {words = words} {r = r} {rest = rest} (sym e ∙ z) .sound)
 
 -- a discarded reading leaves its row empty
-pub row-cleared : {n : ℕ} (r : Record) (store : List ℕ) (rest : ℕ) → n ≡ refuseAnyone (length store) r rest → n ≡ 0 → writtenIn 12 [] store ≡ withoutHours 12 store
+pub row-cleared : {n : ℕ} (r : Record) (store : List ℕ) (rest : ℕ) → n ≡ refuseAnyone (length store) r rest → n ≡ 0
+    → writtenIn 12 [] store ≡ withoutHours 12 store
 row-cleared r store rest e z = written-in 12 [] store (lit≤ tt) (lit≤ tt) (passed (sym e ∙ z) .size)

@@ -36,7 +36,8 @@ passes : (s : State) (marks buffer : List ℕ) → Sound s
     → accepted s (closing marks buffer) ≡ true
 unfolding accepted refusal ownRefusal refuse
 passes s marks buffer sound e =
-    eq-eqb (refusal s (closing marks buffer)) 0 (rw (eq-eqb (length (s .store)) 10416 (sound .fits .words), sound .fits .record-fits, sound .fits .store-fits) e)
+    eq-eqb (refusal s (closing marks buffer)) 0
+    (rw (eq-eqb (length (s .store)) 10416 (sound .fits .words), sound .fits .record-fits, sound .fits .store-fits) e)
 
 record Closed (s : State) (t : ℕ) : Type 0 where
   left : leaves s (plainly t) ≡ accept s (plainly t)
@@ -47,10 +48,10 @@ unfolding leaves
 closed s t sound y = record { left = rw y; sound = call-sound s (plainly t) sound y }
 
 -- what computes
-unfoldable working : Unit {0}
+unfoldable monthDefinitions : Unit {0}
 unfolding opened kept powerOn powerOf accept closedWith inputs measuredIn pastIn rules onBilling onControl onPast byContract evenly byWeights becomesPast
     openHours monthHours monthDays isMonth leapYear nextMonth refuse high crowded unmatched noneAbove
-working = tt
+monthDefinitions = tt
 
 -- the open months
 unfoldable january : State
@@ -67,19 +68,20 @@ unfolding opens openRefusal refuse isMonth agreedFits
 begun = refl
 
 first : Closed january 744
-unfolding january working
-first = closed january 744 (opening-sound oneKilowatt emptyStore begun) (passes january (zeros 744) (zeros 744) (opening-sound oneKilowatt emptyStore begun) refl)
+unfolding january monthDefinitions
+first =
+    closed january 744 (opening-sound oneKilowatt emptyStore begun) (passes january (zeros 744) (zeros 744) (opening-sound oneKilowatt emptyStore begun) refl)
 
 second : Closed next 672
-unfolding january next working
+unfolding january next monthDefinitions
 second = closed next 672 (first .sound) (passes next (zeros 672) (zeros 744) (first .sound) refl)
 
 third : Closed march 744
-unfolding january next march working
+unfolding january next march monthDefinitions
 third = closed march 744 (second .sound) (passes march (zeros 744) (zeros 744) (second .sound) refl)
 
 computed : accept march (plainly 744) .point .total .0 ≡ 2160
-unfolding january next march working
+unfolding january next march monthDefinitions
 computed = refl
 
 pub three-months : afterMarch .point .total .0 ≡ 2160

@@ -11,7 +11,9 @@ use lib.ListN.{length}
 use Rattle.numbers.specs.Lists.{tab, sum}
 use Rattle.numbers.proofs.Laws.{by-cases, length-tab}
 use Rattle.calendar.specs.Calendar.{openHours}
-use Rattle.sharing.specs.Shares.{ones, every, shares, pastAt, stretched, rowPart}
+use Rattle.units.specs.Volumes.{greatestVolumeRead}
+use Rattle.sharing.specs.Shares.{ones, every, shares, pastAt, stretched}
+use Rattle.store.specs.Store.{rowPart}
 use Rattle.sharing.proofs.Rule.{length-shares, sum-shares}
 use Rattle.power.specs.Power.{formula, powerIn, cableFits}
 use Rattle.marks.specs.declared.Survey.{Survey}
@@ -24,7 +26,8 @@ use Rattle.record.specs.declared.Record.{Record}
 use Rattle.record.specs.Record.{isSet}
 use Rattle.store.specs.Store.{asRow}
 use Rattle.store.proofs.Laws.{length-row}
-use Rattle.rules.specs.Rules.{Measured, missing, hourly, whole, PastHours, noPastHours, pastHours, Inputs, pointPower, neighbourOf, asRead, byWeights, byPeaks, evenly, byContract, onPast, groundSix, groundSixIn, onControlPast, onControl, onBilling, rules}
+use Rattle.rules.specs.Rules.{Measured, missing, hourly, whole, PastHours, noPastHours, pastHours, Inputs, pointPower, neighbourOf, asRead}
+use Rattle.rules.specs.Rules.{byWeights, byPeaks, evenly, byContract, onPast, groundSix, groundSixIn, onControlPast, onControl, onBilling, rules}
 use Rattle.model.specs.Model.{state, measuredIn, statedIn, inputs}
 use Rattle.grounds.specs.declared.Found.{Found}
 use Rattle.grounds.specs.declared.past.PastMonth.{PastMonth}
@@ -32,7 +35,8 @@ use Rattle.first_ground.proofs.Laws.{Known, peaks-are, capacity-row, ca
 use Rattle.grounds.specs.Found.{HoursFound, OutcomeFound, hoursFrom, PastFound}
 
 -- N, as the record holds the two neighbour readings
-pub neighbour-is : (g h : Reading) → cond (isSet (g .given)) (g .volume .0) (cond (isSet (h .given)) (h .volume .0) 0) ≡ neighbourOf (statedIn g) (statedIn h)
+pub neighbour-is : (g h : Reading)
+    → cond (isSet (g .given)) (g .volume .0) (cond (isSet (h .given)) (h .volume .0) 0) ≡ neighbourOf (statedIn g) (statedIn h)
 unfolding statedIn neighbourOf
 neighbour-is g h =
     by-cases (isSet (g .given)) (λ t. rw t) (λ f. rw f (by-cases (isSet (h .given)) (λ t. rw t) (λ n. rw n)))
@@ -55,7 +59,8 @@ module _ (i : Inputs) {f : Found} {buffer : List ℕ} where
   unfolding onPast asRead
   seven-gives hs past few e h = subst (λ (x : PastHours). OutcomeFound (onPast i x) f buffer) (sym past) (rw (le-leb (i .counted) 2 few) (rw e at h))
 
-  pub late-gives : (hs : List ℕ) → i .past ≡ pastHours hs → 2 < i .counted → OutcomeFound (byContract i) f buffer → OutcomeFound (onPast i (i .past)) f buffer
+  pub late-gives : (hs : List ℕ) → i .past ≡ pastHours hs → 2 < i .counted → OutcomeFound (byContract i) f buffer
+      → OutcomeFound (onPast i (i .past)) f buffer
   unfolding onPast
   late-gives hs past many h = subst (λ (x : PastHours). OutcomeFound (onPast i x) f buffer) (sym past) (rw (lt-leb (i .counted) 2 many) h)
 
@@ -64,7 +69,8 @@ module _ (i : Inputs) {f : Found} {buffer : List ℕ} where
   none-gives past h = subst (λ (x : PastHours). OutcomeFound (onPast i x) f buffer) (sym past) h
 
   -- GROUNDS 4 TO 6, of the volume v
-  pub five-gives : (v : ℕ) → i .past ≡ noPastHours → HoursFound 5 v (peakRule v (pointPower i) (i .marks)) f buffer → OutcomeFound (onControlPast i v (i .past)) f buffer
+  pub five-gives : (v : ℕ) → i .past ≡ noPastHours → HoursFound 5 v (peakRule v (pointPower i) (i .marks)) f buffer
+      → OutcomeFound (onControlPast i v (i .past)) f buffer
   unfolding onControlPast byPeaks
   five-gives v past h = subst (λ (x : PastHours). OutcomeFound (onControlPast i v x) f buffer) (sym past) h
 
@@ -73,12 +79,14 @@ module _ (i : Inputs) {f : Found} {buffer : List ℕ} where
   unfolding onControlPast byWeights
   four-gives v hs past few e h = subst (λ (x : PastHours). OutcomeFound (onControlPast i v x) f buffer) (sym past) (rw (le-leb (i .counted) 2 few) (rw e at h))
 
-  pub six-gives : (v : ℕ) (hs : List ℕ) → i .past ≡ pastHours hs → 2 < i .counted → groundSixIn i v (shares v (stretched hs (openHours (i .date)))) ≡ true
+  pub six-gives : (v : ℕ) (hs : List ℕ) → i .past ≡ pastHours hs → 2 < i .counted
+      → groundSixIn i v (shares v (stretched hs (openHours (i .date)))) ≡ true
       → HoursFound 6 v (shares v (stretched hs (openHours (i .date)))) f buffer → OutcomeFound (onControlPast i v (i .past)) f buffer
   unfolding onControlPast byWeights
   six-gives v hs past many fits h = subst (λ (x : PastHours). OutcomeFound (onControlPast i v x) f buffer) (sym past) (rw (lt-leb (i .counted) 2 many, fits) h)
 
-  pub later-gives : (v : ℕ) (hs : List ℕ) → i .past ≡ pastHours hs → 2 < i .counted → groundSixIn i v (shares v (stretched hs (openHours (i .date)))) ≡ false
+  pub later-gives : (v : ℕ) (hs : List ℕ) → i .past ≡ pastHours hs → 2 < i .counted
+      → groundSixIn i v (shares v (stretched hs (openHours (i .date)))) ≡ false
       → HoursFound 5 v (peakRule v (pointPower i) (i .marks)) f buffer → OutcomeFound (onControlPast i v (i .past)) f buffer
   unfolding onControlPast byPeaks
   later-gives v hs past many not h = subst (λ (x : PastHours). OutcomeFound (onControlPast i v x) f buffer) (sym past) (rw (lt-leb (i .counted) 2 many, not) h)
@@ -88,7 +96,8 @@ module _ (i : Inputs) {f : Found} {buffer : List ℕ} where
   unfolding onControl asRead
   three-gives hs e h = subst (λ (x : Measured). OutcomeFound (onControl i x) f buffer) (sym e) h
 
-  pub volume-gives : (k : ℕ) → i .control ≡ whole k → OutcomeFound (onControlPast i (k - i .neighbour) (i .past)) f buffer → OutcomeFound (onControl i (i .control)) f buffer
+  pub volume-gives : (k : ℕ) → i .control ≡ whole k → OutcomeFound (onControlPast i (k - i .neighbour) (i .past)) f buffer
+      → OutcomeFound (onControl i (i .control)) f buffer
   unfolding onControl
   volume-gives k e h = subst (λ (x : Measured). OutcomeFound (onControl i x) f buffer) (sym e) h
 
@@ -101,7 +110,8 @@ module _ (i : Inputs) {f : Found} {buffer : List ℕ} where
   unfolding rules onBilling asRead
   one-gives hs e h = subst (λ (x : Measured). OutcomeFound (onBilling i x) f buffer) (sym e) h
 
-  pub two-gives : (b : ℕ) → i .billing ≡ whole b → HoursFound 2 (b - i .neighbour) (peakRule (b - i .neighbour) (pointPower i) (i .marks)) f buffer → OutcomeFound (rules i) f buffer
+  pub two-gives : (b : ℕ) → i .billing ≡ whole b
+      → HoursFound 2 (b - i .neighbour) (peakRule (b - i .neighbour) (pointPower i) (i .marks)) f buffer → OutcomeFound (rules i) f buffer
   unfolding rules onBilling byPeaks
   two-gives b e h = subst (λ (x : Measured). OutcomeFound (onBilling i x) f buffer) (sym e) h
 
@@ -110,11 +120,13 @@ module _ (i : Inputs) {f : Found} {buffer : List ℕ} where
   control-gives e h = subst (λ (x : Measured). OutcomeFound (onBilling i x) f buffer) (sym e) h
 
 -- THE INPUTS, as the record tells them
-pub inputs-past : (r : Record) (store marks : List ℕ) (p : PastMonth) → PastFound r p → p .found ≡ true → inputs (state r store) marks .past ≡ pastHours (rowPart store (p .row) (p .hours))
+pub inputs-past : (r : Record) (store marks : List ℕ) (p : PastMonth) → PastFound r p → p .found ≡ true
+    → inputs (state r store) marks .past ≡ pastHours (rowPart store (p .row) (p .hours))
 unfolding inputs hoursFrom
 inputs-past r store marks p past found = past .same store ∙ rw found
 
-pub inputs-no-past : (r : Record) (store marks : List ℕ) (p : PastMonth) → PastFound r p → p .found ≡ false → inputs (state r store) marks .past ≡ noPastHours
+pub inputs-no-past : (r : Record) (store marks : List ℕ) (p : PastMonth) → PastFound r p → p .found ≡ false
+    → inputs (state r store) marks .past ≡ noPastHours
 unfolding inputs hoursFrom
 inputs-no-past r store marks p past lost = past .same store ∙ rw lost
 
@@ -131,7 +143,8 @@ unfolding measuredIn
 is-missing kind g hs given = rw (ne-eqb (g .given) 1 given)
 
 -- P, where the cable of basis 3 fits
-pub cable-power-is : (c : Contract) {p : ℕ} → c .basis ≡ 3 → cableFits (c .cable) ≡ true → p ≡ powerIn (cableFits (c .cable)) (formula (c .cable) 1) → p ≡ powerOf c
+pub cable-power-is : (c : Contract) {p : ℕ} → c .basis ≡ 3 → cableFits (c .cable) ≡ true
+    → p ≡ powerIn (cableFits (c .cable)) (formula (c .cable) 1) → p ≡ powerOf c
 unfolding powerOf
 cable-power-is c b fits e = e ∙ rw (fits, eq-eqb _ _ b)
 
@@ -144,7 +157,8 @@ pub six-small : (x y k m : ℕ) → x ≤ k → y ≤ m → k * m ≤ 1844674407
 six-small x y k m l n most = omega (arith, mul-le-mul {m₁ = y} {m₂ = m} l n)
 
 -- the test of ground 6, from the buffer that ground 6 filled
-pub six-test : {r : Record} {store marks buffer : List ℕ} → Known r store marks buffer → (v : ℕ) (hs after : List ℕ) {survey : Survey} {p c : ℕ} {t : Bool}
+pub six-test : {r : Record} {store marks buffer : List ℕ} → Known r store marks buffer
+    → (v : ℕ) (hs after : List ℕ) {survey : Survey} {p c : ℕ} {t : Bool}
     → survey ≡ surveyOf marks → t ≡ groundSix (min v (survey .peaks * p)) (survey .days) (survey .peaks) c → p ≡ powerOf (r .contract)
     → c ≡ capacitySum marks after → after ≡ asRow hs → t ≡ groundSixIn (inputs (state r store) marks) v hs
 unfolding inputs groundSixIn peakPart surveyOf surveyWith
@@ -152,7 +166,8 @@ six-test {r} {store} {marks} k v hs after e test power total filled =
     test ∙ rw (total, filled, capacity-row marks hs, power, e, peaks-are k)
 
 -- C over the hours of ground 6 fits 32 bits
-pub six-sum : (marks hs after : List ℕ) (v t : ℕ) {c : ℕ} → 1 ≤ t → t ≤ 744 → v ≤ 744000000 → c ≡ capacitySum marks after → after ≡ asRow (shares v (stretched hs t)) → c ≤ 4294967295
+pub six-sum : (marks hs after : List ℕ) (v t : ℕ) {c : ℕ} → 1 ≤ t → t ≤ 744 → v ≤ greatestVolumeRead
+    → c ≡ capacitySum marks after → after ≡ asRow (shares v (stretched hs t)) → c ≤ 4294967295
 unfolding stretched
 six-sum marks hs after v t any few small total filled =
     let ws = tab t (pastAt hs) in

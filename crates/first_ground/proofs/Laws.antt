@@ -13,6 +13,7 @@ use Rattle.numbers.proofs.Laws.{cond-most, sum-same, sum-most, sum-stop, sum-at
 use Rattle.calendar.specs.declared.Date.{Date}
 use Rattle.calendar.specs.Calendar.{isMonth, openHours}
 use Rattle.calendar.proofs.Laws.{days-low, days-high, month-hours}
+use Rattle.units.specs.Volumes.{greatestVolumeRead, greatestTotal}
 use Rattle.power.specs.Power.{cableFits}
 use Rattle.marks.specs.Marks.{capacityAt, peakCount, dayOf, isWorking, workingDays, surveyWith, surveyOf, capacitySum}
 use Rattle.marks.proofs.Laws.{survey-peaks, peaks-most}
@@ -38,13 +39,14 @@ pub record Known (r : Record) (store marks buffer : List ℕ) : Type 0 where
   pub fits : storeFits store ≡ true
   pub cable : r .contract .basis ≡ 3 → cableFits (r .contract .cable) ≡ true
   pub power : r .contract .power .0 ≤ 1000000
-  pub billing : r .readings .billing .volume .0 ≤ 744000000
-  pub control : r .readings .control .volume .0 ≤ 744000000
+  pub billing : r .readings .billing .volume .0 ≤ greatestVolumeRead
+  pub control : r .readings .control .volume .0 ≤ greatestVolumeRead
   pub run : r .service .run ≤ 12000
-  pub total : r .total .0 ≤ 30000000000000
+  pub total : r .total .0 ≤ greatestTotal
 
 -- a reading's volume within its limit fits a month
-volume-most : (d : Date) (g : Reading) (has whole : Bool) → openHours d ≤ 744 → allOf (readingTests g has whole (volumeLimit d)) ≡ true → g .volume .0 ≤ 744000000
+volume-most : (d : Date) (g : Reading) (has whole : Bool) → openHours d ≤ 744 → allOf (readingTests g has whole (volumeLimit d)) ≡ true
+    → g .volume .0 ≤ greatestVolumeRead
 unfolding volumeLimit
 volume-most d g has whole few h =
     let l : g .volume .0 ≤ openHours d * 1000000 = leb-true _ _ (each-test (readingTests g has whole (openHours d * 1000000)) h .1 .1 .1 .0) in
@@ -122,4 +124,5 @@ pub capacity-within : (marks hs : List ℕ) → length hs ≤ 744 → capacitySu
 unfolding capacitySum
 capacity-within marks hs short =
     rw (sum-at hs, ← sum-stop (at hs) short (λ h l. at-end hs h l))
-    (sum-under (λ h. cond (capacityAt marks h) (at hs h) 0) (at hs) 744 (λ h. cond-most (capacityAt marks h) {x = at hs h} {y = 0} (omega arith) (omega arith)))
+    (sum-under (λ h. cond (capacityAt marks h) (at hs h) 0) (at hs) 744
+    (λ h. cond-most (capacityAt marks h) {x = at hs h} {y = 0} (omega arith) (omega arith)))

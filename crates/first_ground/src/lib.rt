@@ -3,6 +3,7 @@
 ghost use mathlib.Core.Path.{_≡_};
 ghost use mathlib.Core.Bool.{true};
 ghost use Prim.Native.Nat.{_-_, _*_, _≤_, min};
+ghost use Rattle.units.specs.Volumes.{greatestVolumeRead};
 ghost use Rattle.power.specs.Power.{cableFits};
 ghost use Rattle.marks.specs.Marks.{surveyOf};
 ghost use Rattle.contract.specs.Contract.{powerOf};
@@ -75,7 +76,7 @@ pub fn point_power(c: Contract) -> Kw
 
 // The test of ground 6: n > 0, and A × d < n × C', so that no rounded capacity is compared.
 fn six_fits(volume: Kwh, power: Kw, survey: Survey, sum: Kwh) -> bool
-    requires { ⌜ (volume .0 ≤ 744000000) × (survey .peaks ≤ 744) × (survey .days ≤ 31) × (sum .0 ≤ 4294967295) ⌝ }
+    requires { ⌜ (volume .0 ≤ greatestVolumeRead) × (survey .peaks ≤ 744) × (survey .days ≤ 31) × (sum .0 ≤ 4294967295) ⌝ }
     ensures { λ t. ⌜ t ≡ groundSix (min (volume .0) (survey .peaks * power .0)) (survey .days) (survey .peaks) (sum .0) ⌝ }
 {
     let a = peak_part(volume, survey.peaks as u32, power);
@@ -98,7 +99,9 @@ fn by_contract(r: Record, store: &[u32], marks: &[u8], hours: &mut [u32]) -> Fou
 fn on_past(r: Record, store: &[u32], marks: &[u8], hours: &mut [u32]) -> Found
     requires { ⌜ accepted (state r (now store)) (closing (now marks) (now hours)) ≡ true ⌝ }
     ensures { λ f. ⌜
-        OutcomeFound (onPast (inputs (state r (now (store .entry))) (now (marks .entry))) (inputs (state r (now (store .entry))) (now (marks .entry)) .past)) f (now (hours .exit))
+        OutcomeFound
+        (onPast (inputs (state r (now (store .entry))) (now (marks .entry))) (inputs (state r (now (store .entry))) (now (marks .entry)) .past)) f
+        (now (hours .exit))
         ⌝ }
 {
     let past = find_past(r);
@@ -151,7 +154,9 @@ fn on_control(r: Record, store: &[u32], marks: &[u8], survey: Survey, hours: &mu
     requires { ⌜ accepted (state r (now store)) (closing (now marks) (now hours)) ≡ true ⌝ }
     requires { ⌜ survey ≡ surveyOf (now marks) ⌝ }
     ensures { λ f. ⌜
-        OutcomeFound (onControl (inputs (state r (now (store .entry))) (now (marks .entry))) (inputs (state r (now (store .entry))) (now (marks .entry)) .control)) f (now (hours .exit))
+        OutcomeFound
+        (onControl (inputs (state r (now (store .entry))) (now (marks .entry)))
+        (inputs (state r (now (store .entry))) (now (marks .entry)) .control)) f (now (hours .exit))
         ⌝ }
 {
     if r.readings.control.given == 1 {

@@ -11,7 +11,9 @@ use lib.ListN.{length, take, drop, replicate, length-drop, length-replicate, get
 use lib.Seq.{getD-take, length-take-le}
 use Rattle.numbers.specs.Lists.{tab, sumTo, sum, at, zeros, Filled}
 use Rattle.numbers.proofs.Laws.{length-tab, sum-same, sum-at, sum-most, cond-most, none-above-at, filled-padded}
-use Rattle.sharing.specs.Shares.{ones, one, within, every, shares, sharesOver, pastAt, stretched, rowPart, rowFits, chosenAt, monthFits, weightsFit, Shared}
+use Rattle.units.specs.Volumes.{greatestVolumeRead, greatestMonthVolume}
+use Rattle.sharing.specs.Shares.{ones, one, within, every, shares, sharesOver, pastAt, stretched, chosenAt, monthFits, weightsFit, Shared}
+use Rattle.store.specs.Store.{rowPart, rowFits}
 use Rattle.sharing.proofs.Laws.{spread-same}
 use Rattle.sharing.proofs.Rule.{chosen-same}
 use Rattle.power.specs.declared.Cable.{Cable}
@@ -30,13 +32,15 @@ pub read-found : (g : ℕ) (store : List ℕ) (r t : ℕ) (buffer : List ℕ) {a
     → after ≡ readFrom store r t buffer → v ≡ sumTo (at after) t
     → HoursFound g (sum (rowPart store r t)) (rowPart store r t) (record { ground = g; volume = record { 0 = v } }) after
 read-found g store r t buffer l row e f =
-    let long : length (rowPart store r t) ≡ t = length-take-le t (drop (744 * r) store) (rw (length-drop (744 * r) store) (omega (arith, l .words, l .few))) in
+    let long : length (rowPart store r t)
+    ≡ t = length-take-le t (drop (744 * r) store) (rw (length-drop (744 * r) store) (omega (arith, l .words, l .few))) in
     let filled = e ∙ rw (l .room) at (read-from store r t buffer (l .words) row (l .few) (omega (arith, l .room, l .few))) in
     record { ground = refl; volume = f ∙ rw filled (sum-row (rowPart store r t) t long); hours = filled }
 
 -- as the past's
 pub past-found : (g : ℕ) (store : List ℕ) (r past t : ℕ) (buffer : List ℕ) {cleared after : List ℕ} {v : ℕ} → BuffersFit store buffer t
-    → cleared ≡ zeros (length buffer) → Filled (pastAt (take (744 * r + past - 744 * r) (drop (744 * r) store))) cleared after t → v ≡ sumTo (at after) t
+    → cleared ≡ zeros (length buffer) → Filled (pastAt (take (744 * r + past - 744 * r) (drop (744 * r) store))) cleared after t
+    → v ≡ sumTo (at after) t
     → HoursFound g (sum (stretched (rowPart store r past) t)) (stretched (rowPart store r past) t) (record { ground = g; volume = record { 0 = v } }) after
 unfolding stretched
 past-found g store r past t buffer l e filled f =
@@ -49,10 +53,10 @@ past-found g store r past t buffer l e filled f =
 filled-by : {fits r : Bool} {hs before after : List ℕ} → Shared fits hs before after r → fits ≡ true → length before ≡ 744 → after ≡ asRow hs
 filled-by s t l = s .left ∙ rw (t, l)
 
-month-there : (v t room : ℕ) → v ≤ 744000000 → 1 ≤ t → t ≤ 744 → room ≡ 744 → monthFits v t room ≡ true
+month-there : (v t room : ℕ) → v ≤ greatestVolumeRead → 1 ≤ t → t ≤ 744 → room ≡ 744 → monthFits v t room ≡ true
 unfolding monthFits
 month-there v t room small some few e =
-    rw (le-leb v 744000000 small, le-leb 1 t some, le-leb t 744 few, le-leb t room (omega arith))
+    rw (le-leb v greatestVolumeRead small, le-leb 1 t some, le-leb t 744 few, le-leb t room (omega arith))
 
 -- a sharing over every hour
 -- the flags that the code lends
@@ -79,14 +83,17 @@ unfolding weightsFit
 weights-small store r past t chosen fits few =
     let part = rowPart store r past in
     let each = none-above-at 3000000 part (row-part-fits r past store fits) in
-    let most = sum-most (within chosen (pastAt part)) 3000000 t (λ h l. cond-most (chosen h) (cond-most (ltb h (length part)) (each h) (each (h - 168))) (omega arith)) in
-    le-leb (sumTo (within chosen (pastAt part)) t) 2232000000 (omega (arith, most))
+    let most =
+    sum-most (within chosen (pastAt part)) 3000000 t
+    (λ h l. cond-most (chosen h) (cond-most (ltb h (length part)) (each h) (each (h - 168))) (omega arith)) in
+    le-leb (sumTo (within chosen (pastAt part)) t) greatestMonthVolume (omega (arith, most))
 
 -- by the past's weights
 pub shares-found : (g v : ℕ) (store : List ℕ) (r past t : ℕ) (buffer : List ℕ) {after : List ℕ} {done : Bool}
-    → BuffersFit store buffer t → r ≤ 13 → past ≤ 744 → storeFits store ≡ true → v ≤ 744000000
+    → BuffersFit store buffer t → r ≤ 13 → past ≤ 744 → storeFits store ≡ true → v ≤ greatestVolumeRead
     → Shared (rowFits (length store) r past
-    && (monthFits v (length (everyHour t)) (length buffer) && weightsFit (sumTo (within (chosenAt (everyHour t)) (pastAt (rowPart store r past))) (length (everyHour t)))))
+    && (monthFits v (length (everyHour t)) (length buffer) && weightsFit
+    (sumTo (within (chosenAt (everyHour t)) (pastAt (rowPart store r past))) (length (everyHour t)))))
     (sharesOver v (chosenAt (everyHour t)) (stretched (rowPart store r past) (length (everyHour t)))) buffer after done
     → HoursFound g v (shares v (stretched (rowPart store r past) t)) (record { ground = g; volume = record { 0 = v } }) after
 unfolding rowFits stretched
@@ -98,21 +105,27 @@ shares-found g v store r past t buffer l row short fits small s =
       volume = refl;
       hours =
           filled-by there
-          (rw (eq-eqb (length store) 10416 (l .words), le-leb r 13 row, le-leb past 744 short, month-there v t (length buffer) small (l .some) (l .few) (l .room))
+          (rw (
+            eq-eqb (length store) 10416 (l .words),
+            le-leb r 13 row,
+            le-leb past 744 short,
+            month-there v t (length buffer) small (l .some) (l .few) (l .room),
+          )
           (weights-small store r past t (chosenAt (everyHour t)) fits (l .few)))
           (l .room)
           ∙ rw (over-every v t (tab t w) (length-tab t w) (l .few));
     }
 
 -- by the peak rule, or any sharing of a volume that fits a month
-pub month-found : (g v t : ℕ) (buffer hs : List ℕ) {after : List ℕ} {done : Bool} → v ≤ 744000000 → 1 ≤ t → t ≤ 744 → length buffer ≡ 744
+pub month-found : (g v t : ℕ) (buffer hs : List ℕ) {after : List ℕ} {done : Bool} → v ≤ greatestVolumeRead → 1 ≤ t → t ≤ 744
+    → length buffer ≡ 744
     → Shared (monthFits v t (length buffer)) hs buffer after done → HoursFound g v hs (record { ground = g; volume = record { 0 = v } }) after
 month-found g v t buffer hs small some few room s =
     record { ground = refl; volume = refl; hours = filled-by s (month-there v t (length buffer) small some few room) room }
 
 -- evenly
 pub even-found : (g v t : ℕ) (buffer : List ℕ) {after : List ℕ} {done : Bool}
-    → v ≤ 744000000 → 1 ≤ t → t ≤ 744 → length buffer ≡ 744
+    → v ≤ greatestVolumeRead → 1 ≤ t → t ≤ 744 → length buffer ≡ 744
     → Shared (monthFits v (length (everyHour t)) (length buffer)) (sharesOver v (chosenAt (everyHour t)) (ones (length (everyHour t)))) buffer after done
     → HoursFound g v (shares v (ones t)) (record { ground = g; volume = record { 0 = v } }) after
 even-found g v t buffer small some few room s =
@@ -121,12 +134,12 @@ even-found g v t buffer small some few room s =
 
 -- THE VOLUMES OF GROUNDS 8 AND 9
 -- a volume of at most 1,000,000 an hour fits a month
-month-most : (v t : ℕ) → t ≤ 744 → v ≤ 1000000 * t → v ≤ 744000000
+month-most : (v t : ℕ) → t ≤ 744 → v ≤ 1000000 * t → v ≤ greatestVolumeRead
 month-most v t few l = omega arith
 
-pub agreed-most : (t p : ℕ) {v : ℕ} → v ≡ t * p → p ≤ 1000000 → t ≤ 744 → v ≤ 744000000
+pub agreed-most : (t p : ℕ) {v : ℕ} → v ≡ t * p → p ≤ 1000000 → t ≤ 744 → v ≤ greatestVolumeRead
 agreed-most t p e small few = month-most _ t few (rw (e, mul-comm t p) (mul-le-mul small (omega arith)))
 
-pub cable-most : (k : Cable) (t : ℕ) {v : ℕ} → v ≡ formulaIn k t → cableFits k ≡ true → t ≤ 744 → v ≤ 744000000
+pub cable-most : (k : Cable) (t : ℕ) {v : ℕ} → v ≡ formulaIn k t → cableFits k ≡ true → t ≤ 744 → v ≤ greatestVolumeRead
 cable-most k t e fits few =
     month-most _ t few (rw (e, formula-in k t fits (omega arith)) (formula-most k t fits))

@@ -47,7 +47,8 @@ latest-date r v n =
     rw (m .0, le-leb l 36001 (omega (arith, leb-true l 36000 (m .1))))
 
 -- the same month last year
-pub found-year : (r : Record) → valid r ≡ true → at (r .past .years) (r .date .month - 1) ≡ r .date .year - 1 → PastFound r (inRow (lastYear (r .date)))
+pub found-year : (r : Record) → valid r ≡ true → at (r .past .years) (r .date .month - 1) ≡ r .date .year - 1
+    → PastFound r (inRow (lastYear (r .date)))
 unfolding pastIn hoursFrom
 found-year r v e = record {
   same = λ store. rw (eq-eqb _ _ e);
@@ -64,7 +65,8 @@ found-none r n z = record {
 }
 
 -- the latest past month
-pub found-latest : (r : Record) → at (r .past .years) (r .date .month - 1) ≢ r .date .year - 1 → r .past .latest ≢ 0 → PastFound r (inRow (dateOf (r .past .latest)))
+pub found-latest : (r : Record) → at (r .past .years) (r .date .month - 1) ≢ r .date .year - 1 → r .past .latest ≢ 0
+    → PastFound r (inRow (dateOf (r .past .latest)))
 unfolding pastIn hoursFrom dateOf
 found-latest r n z = record {
   same = λ store. rw (ne-eqb (at (r .past .years) (r .date .month - 1)) (r .date .year - 1) n, ne-eqb (r .past .latest) 0 z);

@@ -6,7 +6,7 @@ use mathlib.Core.List.{List}
 use lib.ListN.{length}
 use Rattle.calendar.specs.declared.Date.{Date}
 use Rattle.calendar.specs.Calendar.{openHours}
-use Rattle.sharing.specs.Shares.{rowPart}
+use Rattle.store.specs.Store.{rowPart}
 use Rattle.record.specs.declared.Record.{Record}
 use Rattle.store.specs.Store.{asRow}
 use Rattle.rules.specs.Rules.{PastHours, noPastHours, pastHours, Outcome}

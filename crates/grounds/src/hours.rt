@@ -5,15 +5,17 @@ ghost use mathlib.Core.Bool.{true};
 ghost use Prim.Native.Nat.{_≤_};
 ghost use lib.ListN.{length};
 ghost use Rattle.numbers.specs.Lists.{sum, Filled};
-ghost use Rattle.sharing.specs.Shares.{ones, shares, pastAt, stretched, rowPart};
+ghost use Rattle.units.specs.Volumes.{greatestVolumeRead};
+ghost use Rattle.sharing.specs.Shares.{ones, shares, pastAt, stretched};
+ghost use Rattle.store.specs.Store.{rowPart};
 ghost use Rattle.marks.specs.Peak.{peakRule};
 ghost use Rattle.store.specs.Store.{storeFits};
 ghost use Rattle.grounds.specs.Found.{HoursFound, BuffersFit};
 use super::Found;
+use super::past::share_by_row;
 use marks::peak::peak_rule;
 use numbers::clear;
-use sharing::place::sum_first;
-use sharing::share_by_row;
+use numbers::sum_first;
 use sharing::share_evenly;
 use sharing::weights::past_at;
 use store::read_row;
@@ -57,7 +59,8 @@ pub(crate) fn as_past(
 ) -> Found
     requires { ⌜ BuffersFit (now store) (now hours) t × (row ≤ 13) × (past ≤ 744) ⌝ }
     ensures { λ f. ⌜
-        HoursFound ground (sum (stretched (rowPart (now (store .entry)) row past) t)) (stretched (rowPart (now (store .entry)) row past) t) f (now (hours .exit))
+        HoursFound ground (sum (stretched (rowPart (now (store .entry)) row past) t)) (stretched (rowPart (now (store .entry)) row past) t) f
+        (now (hours .exit))
         ⌝ }
 {
     let from = 744 * row;
@@ -82,7 +85,7 @@ pub(crate) fn by_past(
     hours: &mut [u32],
 ) -> Found
     requires { ⌜ BuffersFit (now store) (now hours) t × (row ≤ 13) × (past ≤ 744) ⌝ }
-    requires { ⌜ (storeFits (now store) ≡ true) × (volume .0 ≤ 744000000) ⌝ }
+    requires { ⌜ (storeFits (now store) ≡ true) × (volume .0 ≤ greatestVolumeRead) ⌝ }
     ensures { λ f. ⌜ HoursFound ground (volume .0) (shares (volume .0) (stretched (rowPart (now (store .entry)) row past) t)) f (now (hours .exit)) ⌝ }
 {
     let every = [true; 744];
@@ -101,7 +104,7 @@ pub(crate) fn by_peaks(
     marks: &[u8],
     hours: &mut [u32],
 ) -> Found
-    requires { ⌜ (volume .0 ≤ 744000000) × (1 ≤ length (now marks)) × (length (now marks) ≤ 744) × (length (now hours) ≡ 744) ⌝ }
+    requires { ⌜ (volume .0 ≤ greatestVolumeRead) × (1 ≤ length (now marks)) × (length (now marks) ≤ 744) × (length (now hours) ≡ 744) ⌝ }
     ensures { λ f. ⌜ HoursFound ground (volume .0) (peakRule (volume .0) (power .0) (now (marks .entry))) f (now (hours .exit)) ⌝ }
 {
     peak_rule(volume, power, marks, hours);
@@ -113,7 +116,7 @@ pub(crate) fn by_peaks(
 
 // A volume evenly over a month of t hours.
 pub(crate) fn evenly(ground: u32, volume: Kwh, t: usize, hours: &mut [u32]) -> Found
-    requires { ⌜ (volume .0 ≤ 744000000) × (1 ≤ t) × (t ≤ 744) × (length (now hours) ≡ 744) ⌝ }
+    requires { ⌜ (volume .0 ≤ greatestVolumeRead) × (1 ≤ t) × (t ≤ 744) × (length (now hours) ≡ 744) ⌝ }
     ensures { λ f. ⌜ HoursFound ground (volume .0) (shares (volume .0) (ones t)) f (now (hours .exit)) ⌝ }
 {
     let every = [true; 744];

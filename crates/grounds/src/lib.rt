@@ -5,7 +5,9 @@ ghost use mathlib.Core.Bool.{true};
 ghost use Prim.Native.Nat.{_*_, _≤_};
 ghost use lib.ListN.{length};
 ghost use Rattle.numbers.specs.Lists.{sum};
-ghost use Rattle.sharing.specs.Shares.{ones, shares, stretched, rowPart};
+ghost use Rattle.units.specs.Volumes.{greatestVolumeRead};
+ghost use Rattle.sharing.specs.Shares.{ones, shares, stretched};
+ghost use Rattle.store.specs.Store.{rowPart};
 ghost use Rattle.power.specs.Power.{formula, cableFits};
 ghost use Rattle.marks.specs.Peak.{peakRule};
 ghost use Rattle.store.specs.Store.{storeFits};
@@ -42,7 +44,7 @@ pub fn ground_one(store: &[u32], t: usize, hours: &mut [u32]) -> Found
 
 // Ground 2: billing, integral. The volume by the peak rule.
 pub fn ground_two(volume: Kwh, power: Kw, marks: &[u8], hours: &mut [u32]) -> Found
-    requires { ⌜ (volume .0 ≤ 744000000) × (1 ≤ length (now marks)) × (length (now marks) ≤ 744) × (length (now hours) ≡ 744) ⌝ }
+    requires { ⌜ (volume .0 ≤ greatestVolumeRead) × (1 ≤ length (now marks)) × (length (now marks) ≤ 744) × (length (now hours) ≡ 744) ⌝ }
     ensures { λ f. ⌜ HoursFound 2 (volume .0) (peakRule (volume .0) (power .0) (now (marks .entry))) f (now (hours .exit)) ⌝ }
 {
     by_peaks(2, volume, power, marks, hours)
@@ -65,7 +67,7 @@ pub fn ground_four(
     hours: &mut [u32],
 ) -> Found
     requires { ⌜ BuffersFit (now store) (now hours) t × PastMonthFits past ⌝ }
-    requires { ⌜ (storeFits (now store) ≡ true) × (volume .0 ≤ 744000000) ⌝ }
+    requires { ⌜ (storeFits (now store) ≡ true) × (volume .0 ≤ greatestVolumeRead) ⌝ }
     ensures { λ f. ⌜
         HoursFound 4 (volume .0) (shares (volume .0) (stretched (rowPart (now (store .entry)) (past .row) (past .hours)) t)) f (now (hours .exit))
         ⌝ }
@@ -83,7 +85,7 @@ pub fn ground_four(
 
 // Ground 5: control, integral, otherwise. The volume by the peak rule.
 pub fn ground_five(volume: Kwh, power: Kw, marks: &[u8], hours: &mut [u32]) -> Found
-    requires { ⌜ (volume .0 ≤ 744000000) × (1 ≤ length (now marks)) × (length (now marks) ≤ 744) × (length (now hours) ≡ 744) ⌝ }
+    requires { ⌜ (volume .0 ≤ greatestVolumeRead) × (1 ≤ length (now marks)) × (length (now marks) ≤ 744) × (length (now hours) ≡ 744) ⌝ }
     ensures { λ f. ⌜ HoursFound 5 (volume .0) (peakRule (volume .0) (power .0) (now (marks .entry))) f (now (hours .exit)) ⌝ }
 {
     by_peaks(5, volume, power, marks, hours)
@@ -92,7 +94,7 @@ pub fn ground_five(volume: Kwh, power: Kw, marks: &[u8], hours: &mut [u32]) -> F
 // Ground 6: control, integral; R at least 3; past; n > 0 and A × d < n × C'. The volume shared by the past, as in ground 4.
 pub fn ground_six(volume: Kwh, store: &[u32], past: PastMonth, t: usize, hours: &mut [u32]) -> Found
     requires { ⌜ BuffersFit (now store) (now hours) t × PastMonthFits past ⌝ }
-    requires { ⌜ (storeFits (now store) ≡ true) × (volume .0 ≤ 744000000) ⌝ }
+    requires { ⌜ (storeFits (now store) ≡ true) × (volume .0 ≤ greatestVolumeRead) ⌝ }
     ensures { λ f. ⌜
         HoursFound 6 (volume .0) (shares (volume .0) (stretched (rowPart (now (store .entry)) (past .row) (past .hours)) t)) f (now (hours .exit))
         ⌝ }
@@ -112,7 +114,8 @@ pub fn ground_six(volume: Kwh, store: &[u32], past: PastMonth, t: usize, hours: 
 pub fn ground_seven(store: &[u32], past: PastMonth, t: usize, hours: &mut [u32]) -> Found
     requires { ⌜ BuffersFit (now store) (now hours) t × PastMonthFits past ⌝ }
     ensures { λ f. ⌜
-        HoursFound 7 (sum (stretched (rowPart (now (store .entry)) (past .row) (past .hours)) t)) (stretched (rowPart (now (store .entry)) (past .row) (past .hours)) t)
+        HoursFound 7 (sum (stretched (rowPart (now (store .entry)) (past .row) (past .hours)) t))
+        (stretched (rowPart (now (store .entry)) (past .row) (past .hours)) t)
         f (now (hours .exit))
         ⌝ }
 {

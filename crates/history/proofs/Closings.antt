@@ -15,7 +15,8 @@ use Rattle.calendar.specs.declared.Date.{Date}
 use Rattle.calendar.specs.Calendar.{isMonth, openHours, nextMonth}
 use Rattle.contract.specs.Contract.{kept}
 use Rattle.record.specs.Record.{kwh, noReadings}
-use Rattle.rules.specs.Calls.{Opening, Call, billingHours, controlHours, billingVolume, controlVolume, neighbour, failure, admission, denial, permission, closing}
+use Rattle.rules.specs.Calls.{Opening, Call, billingHours, controlHours, billingVolume, controlVolume, neighbour, failure, admission, denial}
+use Rattle.rules.specs.Calls.{permission, closing}
 use Rattle.rules.specs.Rules.{Outcome, rules, becomesPast}
 use Rattle.rules.specs.Right.{Right}
 use Rattle.rules.proofs.Laws.{rules-right}
@@ -27,7 +28,8 @@ use Rattle.history.specs.Book.{Book, monthOf, denialsOf, runOf, volumes,
 use Rattle.history.proofs.Rows.{Holds, replacedAt, holds-same, holds-put, set-tab}
 use Rattle.history.proofs.View.{servingOf, faultOf, latestOf, yearIn, contents, pointOf, seen, lookBacks, OfItsMeter, MonthsClosed, Shows, as-seen}
 use Rattle.history.proofs.Inputs.{hours-most, inputs-same}
-use Rattle.history.proofs.Steps.{entry, step-billing-hours, step-control-hours, step-billing-volume, step-control-volume, step-neighbour, step-failure, step-admission, step-denial, step-permission}
+use Rattle.history.proofs.Steps.{entry, step-billing-hours, step-control-hours, step-billing-volume, step-control-volume, step-neighbour}
+use Rattle.history.proofs.Steps.{step-failure, step-admission, step-denial, step-permission}
 
 module _ (o : Opening) (es : Book) (store : List ℕ) (h : Shows o es (seen o es store)) where
   module _ (marks buffer : List ℕ) (t : accepted (seen o es store) (closing marks buffer) ≡ true) where
@@ -45,7 +47,8 @@ module _ (o : Opening) (es : Book) (store : List ℕ) (h : Shows o es (seen o es
     unfolding lookBacks
     run-after = by-cases (becomesPast (rules (inputsOf o es marks))) (λ y. rw y) (λ f. rw (f, add-one))
 
-    years-after : cond (becomesPast (rules (inputsOf o es marks))) (set (tab 12 (yearIn o es)) (rowOf (monthOf o es)) (monthOf o es .year)) (tab 12 (yearIn o es))
+    years-after : cond (becomesPast (rules (inputsOf o es marks))) (set (tab 12 (yearIn o es)) (rowOf (monthOf o es)) (monthOf o es .year))
+        (tab 12 (yearIn o es))
         ≡ tab 12 (yearIn o (entry o es (closing marks buffer) ∷ es))
     unfolding lookBacks
     years-after =
@@ -76,7 +79,9 @@ module _ (o : Opening) (es : Book) (store : List ℕ) (h : Shows o es (seen o es
 
     -- the rows: this month's hours on ground 1 or 2, and rows 12 and 13 clear
     contents-after : (r : ℕ)
-        → replacedAt (replacedAt (cond (becomesPast (rules (inputsOf o es marks))) (replacedAt (contents o es) (rowOf (monthOf o es)) (rules (inputsOf o es marks) .hours)) (contents o es)) 12 []) 13 [] r
+        → replacedAt
+        (replacedAt (cond (becomesPast (rules (inputsOf o es marks)))
+        (replacedAt (contents o es) (rowOf (monthOf o es)) (rules (inputsOf o es marks) .hours)) (contents o es)) 12 []) 13 [] r
         ≡ contents o (entry o es (closing marks buffer) ∷ es) r
     unfolding contents lookBacks
     contents-after r =

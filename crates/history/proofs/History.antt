@@ -11,10 +11,11 @@ use lib.ListN.{length}
 use Rattle.numbers.specs.Lists.{sum, at, padded}
 use Rattle.numbers.proofs.Laws.{by-cases, both}
 use Rattle.calendar.specs.Calendar.{openHours}
-use Rattle.sharing.specs.Shares.{rowPart}
+use Rattle.store.specs.Store.{rowPart}
 use Rattle.record.specs.declared.Record.{Record}
 use Rattle.store.specs.Store.{asRow}
-use Rattle.rules.specs.Calls.{Opening, Call, billingHours, controlHours, billingVolume, controlVolume, neighbour, failure, admission, denial, permission, closing, isClosing}
+use Rattle.rules.specs.Calls.{Opening, Call, billingHours, controlHours, billingVolume, controlVolume, neighbour, failure, admission, denial}
+use Rattle.rules.specs.Calls.{permission, closing, isClosing}
 use Rattle.rules.specs.Rules.{Outcome, becomesPast, figures}
 use Rattle.rules.specs.Right.{NearShare, Right}
 use Rattle.model.specs.declared.Answer.{Answer}
@@ -24,7 +25,8 @@ use Rattle.model.specs.Opening.{opens, opened, openLeaves, openAnswer, Opens}
 use Rattle.model.proofs.Laws.{allowed}
 use Rattle.model.proofs.GoesOn.{opening-sound, never-refused}
 use Rattle.history.specs.Book.{Book, marksOf, monthOf, becamePast, volumes, workOut, feed}
-use Rattle.history.specs.Claim.{Turn, stateAfter, Follows, Run, wasAccepted, closes, book, handed, allHanded, fillsRow, lastBuffer, withoutRefused, Each, Untouched, AsBook, GoesOn, Demand3Always}
+use Rattle.history.specs.Claim.{Turn, stateAfter, Follows, Run, wasAccepted, closes, book, handed, allHanded, fillsRow, lastBuffer}
+use Rattle.history.specs.Claim.{withoutRefused, Each, Untouched, AsBook, GoesOn, Demand3Always}
 use Rattle.history.proofs.Rows.{take-row, holds-same, holds-none}
 use Rattle.history.proofs.View.{lastIn, contents, pointOf, lookBacks, OfItsMeter, MonthsClosed, Shows}
 use Rattle.history.proofs.Inputs.{month-contents}
@@ -121,7 +123,8 @@ does-close o es s (closing marks old) a store buffer h does t e =
     }
 
 -- each turn of a list
-each : (s : State) (P : Turn → List Turn → Type 0) → ((t : Turn) (ts : List Turn) → Follows s (t ∷ ts) → P t ts) → (ts : List Turn) → Follows s ts → Each P ts
+each : (s : State) (P : Turn → List Turn → Type 0) → ((t : Turn) (ts : List Turn) → Follows s (t ∷ ts) → P t ts) → (ts : List Turn)
+    → Follows s ts → Each P ts
 unfolding Follows
 each s P h [] f = tt
 each s P h (t ∷ ts) f = (h t ts f, each s P h ts (f .1))
@@ -145,7 +148,8 @@ kept-follows s (t ∷ ts) f =
 
 -- OF A RUN
 module _ (o : Opening) (s : State) (begun : Shows o [] s) where
-  keep-next : (t : Turn) (ts : List Turn) → Does (stateAfter s ts) (t .call) (t .answer) (t .store) (t .buffer) → Shows o (book o ts) (stateAfter s ts) → Shows o (book o (t ∷ ts)) (stateAfter s (t ∷ ts))
+  keep-next : (t : Turn) (ts : List Turn) → Does (stateAfter s ts) (t .call) (t .answer) (t .store) (t .buffer)
+      → Shows o (book o ts) (stateAfter s ts) → Shows o (book o (t ∷ ts)) (stateAfter s (t ∷ ts))
   unfolding book feed leaves
   keep-next t ts does h =
       let e : stateAfter s (t ∷ ts) ≡ leaves (stateAfter s ts) (t .call) = left-is s t ts does in
@@ -171,7 +175,8 @@ module _ (o : Opening) (s : State) (begun : Shows o [] s) where
   unfolding Follows closes
   closed-turn t ts f y =
       let p = both (wasAccepted t) (isClosing (t .call)) y in
-      does-close o (book o ts) (stateAfter s ts) (t .call) (t .answer) (t .store) (t .buffer) (keep ts (f .1)) (f .0) (sym (took-is s t ts (f .0)) ∙ p .0) (p .1)
+      does-close o (book o ts) (stateAfter s ts) (t .call) (t .answer) (t .store) (t .buffer) (keep ts (f .1)) (f .0)
+      (sym (took-is s t ts (f .0)) ∙ p .0) (p .1)
 
   handed-same : (t : Turn) (ts : List Turn) → Follows s (t ∷ ts) → closes t ≡ true → handed o t ts ≡ workOut o (book o ts) (t .call) .hours
   unfolding handed
@@ -217,7 +222,8 @@ module _ (o : Opening) (s : State) (begun : Shows o [] s) where
   volumes-handed (t ∷ ts) f = volumes-next t ts f ∙ ap (λ (n : ℕ). sum (handed o t ts) + n) (volumes-handed ts (f .1))
 
   -- the rows: the hours of the last closing of a calendar month on ground 1 or 2
-  last-next : (r : ℕ) (t : Turn) (ts : List Turn) → Follows s (t ∷ ts) → asRow (lastIn o (book o (t ∷ ts)) r) ≡ cond (fillsRow o r t ts) (t .buffer) (asRow (lastIn o (book o ts) r))
+  last-next : (r : ℕ) (t : Turn) (ts : List Turn) → Follows s (t ∷ ts)
+      → asRow (lastIn o (book o (t ∷ ts)) r) ≡ cond (fillsRow o r t ts) (t .buffer) (asRow (lastIn o (book o ts) r))
   unfolding lastIn book feed fillsRow closes becamePast becomesPast figures
   last-next r t ts f =
       by-cases (wasAccepted t)
@@ -248,7 +254,16 @@ demand3 o s ts run =
     record {
       asDemand2 = each s _ (λ t before g. number s t before (g .0)) ts f;
       untouched = each s _ (λ t before g. untouched s t before (g .0)) ts f;
-      sameRun = record { before = run .before; answer = run .answer; opens = run .opens; point = run .point; accepted = run .accepted; follows = kept-follows s ts f };
+      sameRun =
+          record {
+            before = run .before;
+            answer = run .answer;
+            opens = run .opens;
+            point = run .point;
+            accepted = run .accepted;
+            follows =
+                kept-follows s ts f;
+          };
       sameState = kept-left s ts f;
       byBook = each s _ (as-book o s begun) ts f;
       totalHanded = total-book o s begun ts f ∙ volumes-handed o s begun ts f;

@@ -12,15 +12,17 @@ use Rattle.numbers.proofs.Laws.{by-cases, both, at-tab}
 use Rattle.calendar.specs.declared.Date.{Date}
 use Rattle.calendar.specs.Calendar.{isEnd, openHours, monthNumber, dateOf}
 use Rattle.calendar.proofs.Laws.{hours-high, number-next, date-number, same-date, OpenLimits, open-limits}
-use Rattle.sharing.specs.Shares.{rowPart}
+use Rattle.store.specs.Store.{rowPart}
 use Rattle.contract.specs.Contract.{kept}
 use Rattle.store.specs.Store.{asRow}
 use Rattle.rules.specs.Calls.{Opening}
 use Rattle.rules.specs.Rules.{Measured, missing, hourly, whole, Stated, unstated, stated, PastHours, noPastHours, pastHours, becomesPast}
 use Rattle.model.specs.Model.{measuredIn, statedIn, rowOf, lastYear, pastIn, inputs}
-use Rattle.history.specs.Book.{Entry, Book, control, closed, ofKind, monthOf, billingOf, thisMonths, sourceOf, becamePast, hoursAt, latestHours, orElsePast, pastOf, inputsOf}
+use Rattle.history.specs.Book.{Entry, Book, control, closed, ofKind, monthOf, billingOf, thisMonths, sourceOf, becamePast, hoursAt}
+use Rattle.history.specs.Book.{latestHours, orElsePast, pastOf, inputsOf}
 use Rattle.history.proofs.Rows.{take-row, row-hours}
-use Rattle.history.proofs.View.{givenBy, statedBy, hoursRead, latestOf, yearIn, lastIn, contents, pointOf, seen, OfItsMeter, Entered, MonthsClosed, Shows}
+use Rattle.history.proofs.View.{givenBy, statedBy, hoursRead, latestOf, yearIn, lastIn, contents, pointOf, seen, OfItsMeter, Entered}
+use Rattle.history.proofs.View.{MonthsClosed, Shows}
 use Rattle.history.proofs.Months.{month-open, grows}
 
 -- no month has more hours than a row
@@ -29,7 +31,8 @@ unfolding openHours
 hours-most d = by-cases (isEnd d) (λ t. rw t (lit≤ tt)) (λ f. rw f (hours-high d))
 
 -- THIS MONTH'S READINGS
-reading-same : (kind t : ℕ) (m : Measured) → OfItsMeter kind t m → (hs : List ℕ) → (length (hoursRead m) ≡ t → hs ≡ hoursRead m) → measuredIn kind (givenBy m) hs ≡ m
+reading-same : (kind t : ℕ) (m : Measured) → OfItsMeter kind t m → (hs : List ℕ) → (length (hoursRead m) ≡ t → hs ≡ hoursRead m)
+    → measuredIn kind (givenBy m) hs ≡ m
 unfolding measuredIn givenBy hoursRead OfItsMeter
 reading-same kind t missing f hs e = refl
 reading-same kind t (hourly xs) f hs e = rw (eq-eqb kind 1 (f .0), e (f .1))
@@ -46,7 +49,8 @@ metered-closed : (e : Entry) → becamePast e ≡ true → ofKind closed e ≡ t
 unfolding becamePast
 metered-closed e m = both (ofKind closed e) (becomesPast (e .out)) m .0
 
-after-metered : (o : Opening) (e : Entry) (es : Book) → Entered o e es → becamePast e ≡ true → monthNumber (monthOf o (e ∷ es)) ≡ monthNumber (monthOf o es) + 1
+after-metered : (o : Opening) (e : Entry) (es : Book) → Entered o e es → becamePast e ≡ true
+    → monthNumber (monthOf o (e ∷ es)) ≡ monthNumber (monthOf o es) + 1
 unfolding monthOf
 after-metered o e es f m =
     let t = metered-closed e m in
@@ -75,8 +79,10 @@ pub record DateFits (d : Date) : Type 0 where
   pub year : 0 < d .year
 
 -- the row of a month, if it holds the year of the date d, is the book's of that date; it is asked for at most 12 months later
-year-same : (o : Opening) (es : Book) → MonthsClosed o es → (d : Date) → DateFits d → monthNumber (monthOf o es) ≤ monthNumber d + 12 → (q : PastHours)
-    → cond (eqb (yearIn o es (rowOf d)) (d .year)) (pastHours (take (openHours d) (asRow (lastIn o es (rowOf d))))) q ≡ orElsePast (hoursAt o (monthNumber d) es) q
+year-same : (o : Opening) (es : Book) → MonthsClosed o es → (d : Date) → DateFits d → monthNumber (monthOf o es) ≤ monthNumber d + 12
+    → (q : PastHours)
+    → cond (eqb (yearIn o es (rowOf d)) (d .year)) (pastHours (take (openHours d) (asRow (lastIn o es (rowOf d))))) q
+    ≡ orElsePast (hoursAt o (monthNumber d) es) q
 unfolding MonthsClosed yearIn lastIn hoursAt orElsePast
 year-same o [] f d h l q = rw (ne-eqb 0 (d .year) (omega (arith, h .year)))
 year-same o (e ∷ es) f d h l q =
@@ -106,7 +112,8 @@ year-same o (e ∷ es) f d h l q =
     (λ m. rw m (year-same o es (f .1) d h (omega arith) q))
 
 latest-same : (o : Opening) (es : Book) → MonthsClosed o es
-    → cond (eqb (latestOf o es) 0) noPastHours (pastHours (take (openHours (dateOf (latestOf o es))) (asRow (lastIn o es (rowOf (dateOf (latestOf o es))))))) ≡ latestHours es
+    → cond (eqb (latestOf o es) 0) noPastHours
+    (pastHours (take (openHours (dateOf (latestOf o es))) (asRow (lastIn o es (rowOf (dateOf (latestOf o es))))))) ≡ latestHours es
 unfolding MonthsClosed latestOf lastIn latestHours
 latest-same o [] f = refl
 latest-same o (e ∷ es) f =
@@ -168,7 +175,8 @@ module _ (o : Opening) (es : Book) (store : List ℕ) (h : Shows o es (seen o es
       rw (
         past-same,
         reading-same (o .asked .billing) t (billingOf es) (h .billing) (rowPart store 12 t) (row-hours (h .rows) 12 t (lit≤ tt) (hours-most _)),
-        reading-same (o .asked .control) t (thisMonths (ofKind control) es) (h .control) (rowPart store 13 t) (row-hours (h .rows) 13 t (lit≤ tt) (hours-most _)),
+        reading-same (o .asked .control) t (thisMonths (ofKind control) es) (h .control) (rowPart store 13 t)
+            (row-hours (h .rows) 13 t (lit≤ tt) (hours-most _)),
         stated-same (sourceOf 1 es),
         stated-same (sourceOf 2 es),
       )

@@ -15,7 +15,7 @@ use Rattle.model.specs.Refusals.{refuse, openRefusal}
 use Rattle.model.specs.Model.{State, state, answer, leaves, bufferAfter}
 use Rattle.model.specs.Opening.{opens, opened, openLeaves, openAnswer}
 use Rattle.history.specs.Claim.{Turn, stateAfter, Follows, Run, wasAccepted, closes, book, handed, allHanded, fillsRow, lastBuffer, withoutRefused}
-use Rattle.history.proofs.Examples.{o, reading}
+use Rattle.history.proofs.Examples.{o, bookDefinitions}
 
 -- THE TURNS OF A LIST OF CALLS, each as its contract has it
 abbrev turn : State → Call → Turn
@@ -75,7 +75,13 @@ abbrev said : Call → ℕ → ℕ → List ℕ → Turn
 said c number g hs =
     record {
       call = c;
-      answer = record { refusal = number; after = zeroRecord; figures = record { ground = g; volume = record { 0 = 0 }; capacity = record { 0 = 0 }; sum = record { 0 = 0 }; days = 0 } };
+      answer =
+          record {
+            refusal = number;
+            after = zeroRecord;
+            figures = record
+                { ground = g; volume = record { 0 = 0 }; capacity = record { 0 = 0 }; sum = record { 0 = 0 }; days = 0 };
+          };
       store = g ∷ [];
       buffer = hs;
     }
@@ -91,44 +97,49 @@ abbrev again : ℕ → Turn → List Turn → List Turn
 again zero t ts = ts
 again (suc n) t ts = t ∷ again n t ts
 
-unfoldable listing : Unit {0}
-unfolding reading stateAfter wasAccepted closes book handed allHanded fillsRow lastBuffer withoutRefused openHours monthHours monthDays leapYear isMonth
-listing = tt
+unfoldable turnDefinitions : Unit {0}
+unfolding bookDefinitions stateAfter wasAccepted closes book handed allHanded fillsRow lastBuffer withoutRefused openHours monthHours monthDays leapYear isMonth
+turnDefinitions = tt
 
 -- accepted is number 0; only an accepted closing closes
 accepts :
     (wasAccepted (said denial 0 0 []) ≡ true) × (wasAccepted (said denial 33 0 []) ≡ false) × (wasAccepted (said denial 1 0 []) ≡ false)
     × (closes (shut 8 1) ≡ true) × (closes (refused 1) ≡ false) × (closes (said denial 0 0 []) ≡ false)
-unfolding listing
+unfolding turnDefinitions
 accepts = (refl, refl, refl, refl, refl, refl)
 
 -- the record and store of the newest turn, or else the opening's
 leavings : (s : State) → (stateAfter s [] ≡ s) × (stateAfter s (shut 8 1 ∷ shut 7 2 ∷ []) ≡ state zeroRecord (8 ∷ []))
-unfolding listing
+unfolding turnDefinitions
 leavings s = (refl, refl)
 
 -- T hours are handed out, 744 in January and 672 in February, and none by a refused closing or another call
 hands :
     (sum (handed o (shut 8 1) []) ≡ 744) × (sum (handed o (shut 8 1) (shut 8 1 ∷ [])) ≡ 672) × (sum (handed o (shut 8 1) (refused 1 ∷ [])) ≡ 744)
-    × (handed o (refused 1) [] ≡ []) × (handed o (said denial 0 0 (1 ∷ [])) [] ≡ []) × (allHanded o (shut 8 2 ∷ refused 9 ∷ shut 8 1 ∷ []) ≡ 2088)
-unfolding listing
+    × (handed o (refused 1) [] ≡ []) × (handed o (said denial 0 0 (1 ∷ [])) [] ≡ [])
+    × (allHanded o (shut 8 2 ∷ refused 9 ∷ shut 8 1 ∷ []) ≡ 2088)
+unfolding turnDefinitions
 hands = (refl, refl, refl, refl, refl, refl)
 
 -- an accepted closing on ground 1 or 2, of that calendar month in any year
 measured :
-    (fillsRow o 0 (shut 1 5) [] ≡ true) × (fillsRow o 0 (shut 2 5) [] ≡ true) × (fillsRow o 0 (shut 3 5) [] ≡ false) × (fillsRow o 0 (refused 5) [] ≡ false)
-    × (fillsRow o 1 (shut 1 5) [] ≡ false) × (fillsRow o 1 (shut 1 5) (shut 8 1 ∷ []) ≡ true) × (fillsRow o 0 (shut 1 5) (again 12 (shut 8 1) []) ≡ true)
-unfolding listing
+    (fillsRow o 0 (shut 1 5) [] ≡ true) × (fillsRow o 0 (shut 2 5) [] ≡ true) × (fillsRow o 0 (shut 3 5) [] ≡ false)
+    × (fillsRow o 0 (refused 5) [] ≡ false)
+    × (fillsRow o 1 (shut 1 5) [] ≡ false) × (fillsRow o 1 (shut 1 5) (shut 8 1 ∷ []) ≡ true)
+    × (fillsRow o 0 (shut 1 5) (again 12 (shut 8 1) []) ≡ true)
+unfolding turnDefinitions
 measured = (refl, refl, refl, refl, refl, refl, refl)
 
 -- the last of them, all 0 where there was none
 lasts :
-    (lastBuffer o 0 [] ≡ zeros 744) × (lastBuffer o 1 (shut 1 5 ∷ []) ≡ zeros 744) × (lastBuffer o 0 (refused 9 ∷ shut 8 1 ∷ shut 1 5 ∷ []) ≡ replicate 744 5)
-    × (lastBuffer o 0 (shut 2 6 ∷ again 11 (shut 8 1) (shut 1 5 ∷ [])) ≡ replicate 744 6) × (lastBuffer o 0 (again 12 (shut 8 1) (shut 1 5 ∷ [])) ≡ replicate 744 5)
-unfolding listing
+    (lastBuffer o 0 [] ≡ zeros 744) × (lastBuffer o 1 (shut 1 5 ∷ []) ≡ zeros 744)
+    × (lastBuffer o 0 (refused 9 ∷ shut 8 1 ∷ shut 1 5 ∷ []) ≡ replicate 744 5)
+    × (lastBuffer o 0 (shut 2 6 ∷ again 11 (shut 8 1) (shut 1 5 ∷ [])) ≡ replicate 744 6)
+    × (lastBuffer o 0 (again 12 (shut 8 1) (shut 1 5 ∷ [])) ≡ replicate 744 5)
+unfolding turnDefinitions
 lasts = (refl, refl, refl, refl, refl)
 
 -- the list without its refused calls
 keeps : withoutRefused (refused 1 ∷ shut 8 1 ∷ said denial 33 0 [] ∷ said permission 0 0 [] ∷ []) ≡ shut 8 1 ∷ said permission 0 0 [] ∷ []
-unfolding listing
+unfolding turnDefinitions
 keeps = refl

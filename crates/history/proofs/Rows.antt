@@ -12,7 +12,7 @@ use lib.ListN.{length, take, drop, set, length-set, length-take, length-drop, le
 use lib.Seq.{take-at, take-take, getD-take, getD-drop, getD-set-same, getD-set-other, ext-getD}
 use Rattle.numbers.specs.Lists.{tab, zeros, padded}
 use Rattle.numbers.proofs.Laws.{by-cases, length-tab, at-tab, at-zeros}
-use Rattle.sharing.specs.Shares.{rowPart}
+use Rattle.store.specs.Store.{rowPart}
 use Rattle.store.specs.Store.{asRow, withHours, emptyStore}
 use Rattle.store.proofs.Laws.{length-row, length-put, row-put-same, row-put-other, padded-none}
 
@@ -35,7 +35,8 @@ pub holds-same : {f g : ℕ → List ℕ} {store : List ℕ} → ((r : ℕ) → 
 holds-same e h = record { words = h .words; rows = λ r l. h .rows r l ∙ ap asRow (e r) }
 
 -- hours written into row q
-pub holds-put : {f : ℕ → List ℕ} {store : List ℕ} (q : ℕ) (hs : List ℕ) → q ≤ 13 → length hs ≤ 744 → Holds f store → Holds (replacedAt f q hs) (withHours q hs store)
+pub holds-put : {f : ℕ → List ℕ} {store : List ℕ} (q : ℕ) (hs : List ℕ) → q ≤ 13 → length hs ≤ 744 → Holds f store
+    → Holds (replacedAt f q hs) (withHours q hs store)
 holds-put {f} {store} q hs l m h =
     let long = length-row hs m in
     record {
@@ -51,7 +52,8 @@ holds-put {f} {store} q hs l m h =
     }
 
 -- the hours of a month of t hours in their row
-pub row-hours : {f : ℕ → List ℕ} {store : List ℕ} → Holds f store → (r t : ℕ) → r ≤ 13 → t ≤ 744 → length (f r) ≡ t → rowPart store r t ≡ f r
+pub row-hours : {f : ℕ → List ℕ} {store : List ℕ} → Holds f store → (r t : ℕ) → r ≤ 13 → t ≤ 744 → length (f r) ≡ t
+    → rowPart store r t ≡ f r
 row-hours {f} {store} h r t l m e =
     sym (take-take t 744 (drop (744 * r) store) m) ∙ rw (h .rows r l) (take-row (f r) t e)
 

@@ -12,7 +12,8 @@ use Rattle.numbers.proofs.Laws.{by-cases, both}
 use Rattle.calendar.specs.Calendar.{openHours, monthNumber}
 use Rattle.contract.specs.Contract.{kept}
 use Rattle.record.specs.Record.{isSet}
-use Rattle.rules.specs.Calls.{Opening, Call, billingHours, controlHours, billingVolume, controlVolume, neighbour, failure, admission, denial, permission, closing, isClosing}
+use Rattle.rules.specs.Calls.{Opening, Call, billingHours, controlHours, billingVolume, controlVolume, neighbour, failure, admission, denial}
+use Rattle.rules.specs.Calls.{permission, closing, isClosing}
 use Rattle.rules.specs.Rules.{Measured, missing, hourly, whole, Outcome, becomesPast}
 use Rattle.model.specs.Refusals.{ownRefusal}
 use Rattle.model.specs.Model.{accept, accepted}
@@ -103,7 +104,8 @@ module _ (o : Opening) (es : Book) (store : List ℕ) (h : Shows o es (seen o es
       let q = reading-passed (call-passed (seen o es store) (billingHours hs) t .own) in
       let e : length hs ≡ openHours (monthOf o es) = tested (q .long) in
       between (billingHours hs) t refl refl
-      (holds-same (row-12 o es (entry o es (billingHours hs) ∷ es) hs refl refl (λ r. refl)) (holds-put 12 hs (lit≤ tt) (omega (arith, hours-most (monthOf o es))) (h .rows)))
+      (holds-same (row-12 o es (entry o es (billingHours hs) ∷ es) hs refl refl (λ r. refl))
+      (holds-put 12 hs (lit≤ tt) (omega (arith, hours-most (monthOf o es))) (h .rows)))
       (tested (q .meter), e) (h .control)
 
   pub step-control-hours : (hs : List ℕ) → Steps (controlHours hs)
@@ -112,7 +114,8 @@ module _ (o : Opening) (es : Book) (store : List ℕ) (h : Shows o es (seen o es
       let q = reading-passed (call-passed (seen o es store) (controlHours hs) t .own) in
       let e : length hs ≡ openHours (monthOf o es) = tested (q .long) in
       between (controlHours hs) t refl refl
-      (holds-same (row-13 o es (entry o es (controlHours hs) ∷ es) hs refl refl (λ r. refl)) (holds-put 13 hs (lit≤ tt) (omega (arith, hours-most (monthOf o es))) (h .rows)))
+      (holds-same (row-13 o es (entry o es (controlHours hs) ∷ es) hs refl refl (λ r. refl))
+      (holds-put 13 hs (lit≤ tt) (omega (arith, hours-most (monthOf o es))) (h .rows)))
       (h .billing) (tested (q .meter), e)
 
   pub step-billing-volume : (v : ℕ) → Steps (billingVolume v)

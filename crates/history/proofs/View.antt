@@ -15,7 +15,9 @@ use Rattle.rules.specs.Calls.{Opening, isClosing}
 use Rattle.rules.specs.Rules.{Measured, missing, hourly, whole, Stated, unstated, stated}
 use Rattle.model.specs.Model.{State, state, rowOf}
 use Rattle.model.specs.Sound.{Sound}
-use Rattle.history.specs.Book.{Entry, Book, control, failed, admitted, closed, kindOf, kindNumber, ofKind, sourceOrReason, readingOf, marksOf, isFrom, isFaulty, monthOf, denialsOf, discards, billingOf, thisMonths, asStated, sourceOf, isRepeat, becamePast, runOf, volumes, workOut}
+use Rattle.history.specs.Book.{Entry, Book, control, failed, admitted, closed, kindOf, kindNumber, ofKind, sourceOrReason, readingOf, marksOf}
+use Rattle.history.specs.Book.{isFrom, isFaulty, monthOf, denialsOf, discards, billingOf, thisMonths, asStated, sourceOf, isRepeat}
+use Rattle.history.specs.Book.{becamePast, runOf, volumes, workOut}
 use Rattle.history.proofs.Rows.{Holds}
 
 -- WHAT A BOOK DESCRIBES
@@ -90,7 +92,8 @@ seen o es store = state (pointOf o es) store
 -- what unfolds with an entry, by one name
 unfoldable pub lookBacks : Unit {0}
 unfolding givenBy statedBy hoursRead servingOf faultOf latestOf yearIn lastIn
-    ofKind kindOf kindNumber sourceOrReason readingOf marksOf isFrom isFaulty monthOf denialsOf discards billingOf thisMonths asStated sourceOf isRepeat becamePast runOf volumes workOut isClosing
+    ofKind kindOf kindNumber sourceOrReason readingOf marksOf isFrom isFaulty monthOf denialsOf discards billingOf thisMonths asStated sourceOf
+    isRepeat becamePast runOf volumes workOut isClosing
 lookBacks = tt
 
 -- WHAT HOLDS OF A BOOK

@@ -1,4 +1,5 @@
--- The book of demand 3 (document 01, 'The list and the book of demand 3'). It is fed the opening's arguments, then each call's arguments and whether it was accepted, and looks back over them.
+-- The book of demand 3 (document 01, 'The list and the book of demand 3'). It is fed the opening's arguments, then each call's arguments
+-- and whether it was accepted, and looks back over them.
 -- It imports no record, no store and no model: nothing comes from there.
 use Prim.Native.Nat.{ℕ, suc, _+_, _-_}
 use mathlib.Core.Bool.{Bool, false, cond, _&&_, _||_}
@@ -7,8 +8,10 @@ use lib.Dec.{eqb, leb}
 use Rattle.calendar.specs.declared.Date.{Date}
 use Rattle.calendar.specs.Calendar.{monthNumber, nextMonth}
 use Rattle.contract.specs.Contract.{kept}
-use Rattle.rules.specs.Calls.{Opening, Call, billingHours, controlHours, billingVolume, controlVolume, neighbour, failure, admission, denial, permission, closing, isClosing, isFault}
-use Rattle.rules.specs.Rules.{Measured, missing, hourly, whole, Stated, unstated, stated, PastHours, noPastHours, pastHours, Inputs, Outcome, countedOf, neighbourOf, rules, becomesPast}
+use Rattle.rules.specs.Calls.{Opening, Call, billingHours, controlHours, billingVolume, controlVolume, neighbour, failure, admission, denial}
+use Rattle.rules.specs.Calls.{permission, closing, isClosing, isFault}
+use Rattle.rules.specs.Rules.{Measured, missing, hourly, whole, Stated, unstated, stated, PastHours, noPastHours, pastHours, Inputs, Outcome}
+use Rattle.rules.specs.Rules.{countedOf, neighbourOf, rules, becomesPast}
 
 -- an accepted call, and what the book worked out if it is a closing
 pub record Entry : Type 0 where
@@ -112,7 +115,8 @@ denialsOf (e ∷ es) =
 unfoldable pub discards : Entry → Book → Bool
 discards e es = ofKind failed e || (ofKind denied e && eqb (denialsOf es) 1)
 
--- billing reading: this month's last, unless a later failure or second denial discarded it. This month's calls are those since the last closing, or else the opening
+-- billing reading: this month's last, unless a later failure or second denial discarded it. This month's calls are those since the last
+-- closing, or else the opening
 unfoldable pub billingOf : Book → Measured
 billingOf [] = missing
 billingOf (e ∷ es) =

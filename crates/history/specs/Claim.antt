@@ -9,7 +9,7 @@ use lib.ListN.{take}
 use lib.Dec.{eqb}
 use Rattle.numbers.specs.Lists.{sum, at, zeros}
 use Rattle.calendar.specs.Calendar.{openHours}
-use Rattle.sharing.specs.Shares.{rowPart}
+use Rattle.store.specs.Store.{rowPart}
 use Rattle.store.specs.Store.{asRow}
 use Rattle.rules.specs.Calls.{Opening, Call, isClosing, bufferOf}
 use Rattle.rules.specs.Rules.{figures, noFigures}
@@ -122,7 +122,9 @@ pub record Demand3 (o : Opening) (s : State) (ts : List Turn) : Type 0 where
   -- each calendar month's row holds the hours last handed out on ground 1 or 2
   pub rows : (r : ℕ) → r < 12 → rowPart (stateAfter s ts .store) r 744 ≡ lastBuffer o r ts
   -- every hour is less than one kWh from its exact share
-  pub near : Each (λ t before. closes t ≡ true → (h : ℕ) → h < openHours (monthOf o (book o before)) → NearShare (at (handed o t before) h) (workOut o (book o before) (t .call) .exact h)) ts
+  pub near : Each
+      (λ t before. closes t ≡ true → (h : ℕ) → h < openHours (monthOf o (book o before))
+      → NearShare (at (handed o t before) h) (workOut o (book o before) (t .call) .exact h)) ts
   -- and the point goes on: no call is refused with 1, 2 or 45
   pub goesOn : Each (λ t before. GoesOn (t .answer .refusal)) ts
 

@@ -1,12 +1,12 @@
 -- The first days of months follow one another by the lengths of the months. Assumes nothing.
 use Prim.Native.Nat.{ℕ, zero, suc, _+_, _-_, _*_, _/_, _%_, _≤_}
-use mathlib.Core.Bool.{Bool, true, false, cond, _&&_}
+use mathlib.Core.Bool.{true, cond, _&&_}
 use mathlib.Core.Path.{_≡_, refl, _∙_}
 use native.Mathlib.Omega.{arith}
 use borrow.Author.Tests.{eqb-true, eqb-false}
 use lib.Dec.{eqb, lit≤}
 use lib.ListN.{getD}
-use Rattle.numbers.proofs.Laws.{by-cases}
+use Rattle.numbers.proofs.Laws.{by-cases, and-false}
 use Rattle.calendar.specs.declared.Date.{Date}
 use Rattle.calendar.specs.Calendar.{leapYear, monthTable, isMonth, isOpen, monthDays, nextMonth}
 use Rattle.calendar.proofs.Laws.{limits, open-next}
@@ -80,10 +80,6 @@ days d = cond (leapYear (d .year) && eqb (d .month) 2) 29 (getD monthTable (d .m
 
 abbrev on : ℕ → ℕ → Date
 on y m = record { year = y; month = m }
-
-and-false : (b : Bool) → (b && false) ≡ false
-and-false true = refl
-and-false false = refl
 
 february-by : (s k n : ℕ) → n ≡ k + 27 → (s + k + 2) % 7 ≡ ((s + 3) % 7 + n) % 7
 february-by s k n e = omega arith

@@ -10,9 +10,11 @@ use lib.Dec.{eqb, ltb}
 use lib.ListN.{length, List·getD-eq-default}
 use Rattle.numbers.specs.Lists.{sumTo, anyTo, countTo, at}
 use Rattle.numbers.specs.Rounding.{halfUp}
-use Rattle.numbers.proofs.Laws.{by-cases, neither, sum-stop, sum-parts, sum-same, sum-most, sum-weighted, count-any, count-some, count-holds, HoldsOfOne, none-at}
+use Rattle.numbers.proofs.Laws.{by-cases, neither, sum-stop, sum-parts, sum-same, sum-most, sum-weighted, count-any, count-some, count-holds}
+use Rattle.numbers.proofs.Laws.{HoldsOfOne, none-at}
 use Rattle.numbers.proofs.Rounds.{half-up-most}
-use Rattle.marks.specs.Marks.{peakAt, capacityAt, peakCount, dayOf, isWorking, isCrowded, isUnmatched, workingDays, crowded, unmatched, surveyWith, surveyOf, capacitySum, capacityOf, capacityIn}
+use Rattle.marks.specs.Marks.{peakAt, capacityAt, peakCount, dayOf, isWorking, isCrowded, isUnmatched, workingDays, crowded, unmatched}
+use Rattle.marks.specs.Marks.{surveyWith, surveyOf, capacitySum, capacityOf, capacityIn}
 
 -- a day is a working day just where it has a capacity hour
 pub working-has : (marks : List ℕ) (k : ℕ) → isWorking (dayOf marks k) ≡ true → HoldsOfOne (λ h. capacityAt marks (24 * k + h)) 24
@@ -80,13 +82,15 @@ capacity-most sum days k l =
     (λ f. rw f (half-up-most sum days k l))
 
 -- C is a sum over the marks' hours alone
-pub capacity-sum-hours : (marks hours : List ℕ) → length marks ≤ 744 → capacitySum marks hours ≡ sumTo (λ h. cond (capacityAt marks h) (at hours h) 0) (length marks)
+pub capacity-sum-hours : (marks hours : List ℕ) → length marks ≤ 744
+    → capacitySum marks hours ≡ sumTo (λ h. cond (capacityAt marks h) (at hours h) 0) (length marks)
 unfolding capacitySum
 capacity-sum-hours marks hours l =
     sum-stop (λ h. cond (capacityAt marks h) (at hours h) 0) l (λ h m. rw (List·getD-eq-default marks 0 {n = h} m))
 
 -- LAW: of a month of k days that passes 43, with no hour above x, capacity is at most x
-pub month-capacity-most : (marks hours : List ℕ) (k x : ℕ) → length marks ≡ 24 * k → k ≤ 31 → unmatched marks k ≡ false → ((h : ℕ) → at hours h ≤ x)
+pub month-capacity-most : (marks hours : List ℕ) (k x : ℕ) → length marks ≡ 24 * k → k ≤ 31 → unmatched marks k ≡ false
+    → ((h : ℕ) → at hours h ≤ x)
     → capacityOf (capacitySum marks hours) (workingDays marks k) ≤ x
 month-capacity-most marks hours k x e l f small =
     capacity-most _ _ x

@@ -18,8 +18,8 @@ use Rattle.marks.specs.Peak.{peakPart, peakRule}
 use Rattle.marks.proofs.Laws.{peaks-most}
 
 -- the hours that are no peaks
-abbrev otherAt : List ℕ → ℕ → Bool
-otherAt marks = others (peakAt marks)
+abbrev offPeakAt : List ℕ → ℕ → Bool
+offPeakAt marks = others (peakAt marks)
 
 -- A is at most V, and at most n × P
 pub part-most : (v p : ℕ) (marks : List ℕ) → (peakPart v p marks ≤ v) × (peakPart v p marks ≤ p * peakCount marks)
@@ -41,7 +41,7 @@ unfolding peakRule
 length-peak-rule v p marks = length-apart _ _ _ (length marks)
 
 -- the number of hours that are no peaks
-pub other-count : (marks : List ℕ) → countTo (otherAt marks) (length marks) ≡ length marks - peakCount marks
+pub other-count : (marks : List ℕ) → countTo (offPeakAt marks) (length marks) ≡ length marks - peakCount marks
 unfolding peakCount
 other-count marks = omega (arith, all-hours (peakAt marks) (length marks))
 
@@ -49,7 +49,7 @@ other-count marks = omega (arith, all-hours (peakAt marks) (length marks))
 at-peak-rule : (v p : ℕ) (marks : List ℕ) (h : ℕ) → h < length marks
     → at (peakRule v p marks) h
     ≡ share (peakPart v p marks) (length marks) (taken (length marks) (peakAt marks) one) h
-    + share (v - peakPart v p marks) (length marks) (taken (length marks) (otherAt marks) one) h
+    + share (v - peakPart v p marks) (length marks) (taken (length marks) (offPeakAt marks) one) h
 unfolding peakRule sharesApart apartAt
 at-peak-rule v p marks h l = at-tab (length marks) _ h l
 
@@ -62,7 +62,7 @@ pub no-peaks : (v p : ℕ) (marks : List ℕ) → peakCount marks ≡ 0 → peak
 unfolding peakRule sharesApart apartAt spread
 no-peaks v p marks e =
     let t = length marks in
-    let all = chosen-same t (otherAt marks) every one (λ h l. rw (peaks-off marks e h l)) in
+    let all = chosen-same t (offPeakAt marks) every one (λ h l. rw (peaks-off marks e h l)) in
     rw (shares-tab v t every one, part-none v p marks e, sub-zero)
     (tab-same t _ _ (λ h l. rw (share-none t (taken t (peakAt marks) one) h, zero-add) (share-same v t _ _ all h l)))
 
@@ -75,7 +75,7 @@ module _ (v p : ℕ) (marks : List ℕ) (h : ℕ) where
   peak-share = share (peakPart v p marks) (length marks) (taken (length marks) (peakAt marks) one) h
 
   other-share : ℕ
-  other-share = share (v - peakPart v p marks) (length marks) (taken (length marks) (otherAt marks) one) h
+  other-share = share (v - peakPart v p marks) (length marks) (taken (length marks) (offPeakAt marks) one) h
 
   peak-share-most : peak-share ≤ cond (peakAt marks h) p 0
   unfolding peak-share peakCount
@@ -85,13 +85,15 @@ module _ (v p : ℕ) (marks : List ℕ) (h : ℕ) where
         | no none ↦ rw (part-none v p marks (omega arith), share-none (length marks) (taken (length marks) (peakAt marks) one) h) (omega arith)
       ]
 
-  other-share-most : (x : ℕ) → 0 < length marks - peakCount marks → v ≤ x * (length marks - peakCount marks) → other-share ≤ cond (otherAt marks h) x 0
+  other-share-most : (x : ℕ) → 0 < length marks - peakCount marks → v ≤ x * (length marks - peakCount marks)
+      → other-share ≤ cond (offPeakAt marks h) x 0
   unfolding other-share
   other-share-most x some l =
-      even-most (length marks) (otherAt marks) (rw (other-count marks) some) (v - peakPart v p marks) h x (rw (other-count marks) (omega arith))
+      even-most (length marks) (offPeakAt marks) (rw (other-count marks) some) (v - peakPart v p marks) h x (rw (other-count marks) (omega arith))
 
 -- LAW: no hour above 3,000,000 where the marks pass 42, V is at most T × 1,000,000 and P at most 1,000,000
-pub peak-rule-most : (v p k : ℕ) (marks : List ℕ) → length marks ≡ 24 * k → 0 < k → crowded marks k ≡ false → p ≤ 1000000 → v ≤ length marks * 1000000
+pub peak-rule-most : (v p k : ℕ) (marks : List ℕ) → length marks ≡ 24 * k → 0 < k → crowded marks k ≡ false → p ≤ 1000000
+    → v ≤ length marks * 1000000
     → (h : ℕ) → h < length marks → at (peakRule v p marks) h ≤ 3000000
 unfolding peak-share other-share
 peak-rule-most v p k marks e some f power volume h l =
@@ -116,5 +118,5 @@ module _ (v p : ℕ) (marks : List ℕ) (h : ℕ) (l : h < length marks) (rest :
   unfolding peak-share
   other-near f =
       let none : peak-share v p marks h ≤ 0 = rw f at (peak-share-most v p marks h) in
-      near-sum (rw (other-count marks) at (even-near (length marks) (otherAt marks) (rw (other-count marks) rest) (v - peakPart v p marks) h (rw f)))
+      near-sum (rw (other-count marks) at (even-near (length marks) (offPeakAt marks) (rw (other-count marks) rest) (v - peakPart v p marks) h (rw f)))
       (at-peak-rule v p marks h l ∙ omega arith)

@@ -1,4 +1,5 @@
--- A point goes on: an accepted closing works by inputs of which the rules are right, and leaves, where its run and total have room, a record that passes number 2 and a store that passes 1 and 45. Assumes nothing.
+-- A point goes on: an accepted closing works by inputs of which the rules are right, and leaves, where its run and total have room, a
+-- record that passes number 2 and a store that passes 1 and 45. Assumes nothing.
 use Prim.Native.Nat.{ℕ, _+_, _-_, _*_, _/_, _%_, _≤_}
 use mathlib.Core.Path.{_≡_, _∙_}
 use mathlib.Core.Bool.{Bool, true, false, not, _&&_, _||_}
@@ -13,7 +14,7 @@ use Rattle.numbers.proofs.Laws.{by-cases, both, cond-most, all-at, all-from}
 use Rattle.calendar.specs.declared.Date.{Date}
 use Rattle.calendar.specs.Calendar.{isMonth, monthDays, openHours, monthNumber, isMonthNumber, yearOf, placeOf, dateOf, nextMonth}
 use Rattle.calendar.proofs.Laws.{limits, days-low, days-high, month-hours, open-next, number-limits, number-next}
-use Rattle.sharing.specs.Shares.{rowPart}
+use Rattle.store.specs.Store.{rowPart}
 use Rattle.marks.specs.Marks.{high, crowded, unmatched}
 use Rattle.power.specs.Power.{cableFits}
 use Rattle.contract.specs.declared.Contract.{Contract}
@@ -71,7 +72,8 @@ measured kind t g hs f l =
     (λ n. rw n tt)
 
 -- a row of the month
-row-hours : (store : List ℕ) (r t : ℕ) → length store ≡ 10416 → storeFits store ≡ true → 12 ≤ r → r ≤ 13 → t ≤ 744 → HoursFit t (rowPart store r t)
+row-hours : (store : List ℕ) (r t : ℕ) → length store ≡ 10416 → storeFits store ≡ true → 12 ≤ r → r ≤ 13 → t ≤ 744
+    → HoursFit t (rowPart store r t)
 row-hours store r t words fits low high l = record {
   long = length-take-le t (drop (744 * r) store) (rw (length-drop (744 * r) store) (omega arith));
   small = row-part-fits-month r t store fits low;
@@ -119,8 +121,12 @@ inputs-fit s marks buffer t =
       notCrowded = rw whole at (q .notCrowded);
       power = leb-true _ _ (each-test (contractTests (r .contract)) (v .contract) .1 .1 .1 .0);
       cable = cable-there (r .contract) (v .contract);
-      billing = measured _ _ _ _ (row-hours (s .store) 12 (openHours (r .date)) (o .size) (q .fits) (lit≤ tt) (lit≤ tt) short) (volume-most (r .date) (r .readings .billing) true _ (g .billing));
-      control = measured _ _ _ _ (row-hours (s .store) 13 (openHours (r .date)) (o .size) (q .fits) (lit≤ tt) (lit≤ tt) short) (volume-most (r .date) (r .readings .control) (not (eqb (r .contract .control) 0)) _ (g .control));
+      billing =
+          measured _ _ _ _ (row-hours (s .store) 12 (openHours (r .date)) (o .size) (q .fits) (lit≤ tt) (lit≤ tt) short)
+          (volume-most (r .date) (r .readings .billing) true _ (g .billing));
+      control =
+          measured _ _ _ _ (row-hours (s .store) 13 (openHours (r .date)) (o .size) (q .fits) (lit≤ tt) (lit≤ tt) short)
+          (volume-most (r .date) (r .readings .control) (not (eqb (r .contract .control) 0)) _ (g .control));
       past = past-small s (q .fits);
     }
 
@@ -140,7 +146,8 @@ year-grows years d e k l h =
     rw (f, p .0) (lt-ltb n (monthNumber e) (omega (arith, ltb-true n (monthNumber d) (p .1)))))
 
 -- the closed month's year fits its row in the month after
-year-closed : (years : List ℕ) (d : Date) (k : ℕ) → isMonth d ≡ true → k ≡ rowOf d → at years k ≡ d .year → yearFits years (nextMonth d) k ≡ true
+year-closed : (years : List ℕ) (d : Date) (k : ℕ) → isMonth d ≡ true → k ≡ rowOf d → at years k ≡ d .year
+    → yearFits years (nextMonth d) k ≡ true
 unfolding monthNumber
 year-closed years d k m e y =
     let l = limits d m in
@@ -149,7 +156,8 @@ year-closed years d k m e y =
     (lt-ltb (d .year * 12 + (k + 1)) (nextMonth d .year * 12 + nextMonth d .month) (omega arith))
 
 -- the closed month is the latest past in the month after, and stands in its row
-latest-closed : (d : Date) → isMonth d ≡ true → eqb (monthNumber d) 0 || (isMonthNumber (monthNumber d) && ltb (monthNumber d) (monthNumber (nextMonth d))) ≡ true
+latest-closed : (d : Date) → isMonth d ≡ true
+    → eqb (monthNumber d) 0 || (isMonthNumber (monthNumber d) && ltb (monthNumber d) (monthNumber (nextMonth d))) ≡ true
 latest-closed d m =
     let l = number-limits d m in
     rw (ne-eqb (monthNumber d) 0 (λ z. omega (arith, l .0)), le-leb 24169 (monthNumber d) (l .0), le-leb (monthNumber d) 36000 (l .1))
@@ -207,14 +215,16 @@ cleared row store low high f = record {
   fits = put-fits-month row [] store (f .words) (f .fits) (lit≤ tt) low high no-hours;
 }
 
-filed : (row : ℕ) (hs store : List ℕ) → row ≤ 11 → length hs ≤ 744 → noneAbove 3000000 hs ≡ true → Stored store → Stored (putRow row (asRow hs) store)
+filed : (row : ℕ) (hs store : List ℕ) → row ≤ 11 → length hs ≤ 744 → noneAbove 3000000 hs ≡ true → Stored store
+    → Stored (putRow row (asRow hs) store)
 filed row hs store l short n f = record {
   words = length-put row (asRow hs) store (f .words) (omega arith) (length-row hs short);
   fits = put-fits-past row hs store (f .words) (f .fits) short l n;
 }
 
 -- A POINT GOES ON with a closing that has room
-pub closing-fits : (s : State) (marks buffer : List ℕ) → StateFits s → accepted s (closing marks buffer) ≡ true → Room s (rules (inputs s marks)) → StateFits (accept s (closing marks buffer))
+pub closing-fits : (s : State) (marks buffer : List ℕ) → StateFits s → accepted s (closing marks buffer) ≡ true
+    → Room s (rules (inputs s marks)) → StateFits (accept s (closing marks buffer))
 unfolding accept closedWith
 closing-fits s marks buffer f t room =
     let r = s .point in

@@ -25,10 +25,10 @@ use Rattle.rules.specs.Rules.{noPastHours, pastHours, becomesPast}
 use Rattle.model.specs.Refusals.{refuse, refuseAnyone, ownRefusal, openRefusal}
 use Rattle.model.specs.Model.{State, state, faultWithinYear, afterFailure, pastIn, closedWith, accept}
 
-unfoldable pub judging : Unit {0}
+unfoldable pub refusalDefinitions : Unit {0}
 unfolding refuse ownRefusal openRefusal valid volumeLimit noneAbove storeFits isMonth monthDays monthHours openHours leapYear monthNumber
     dateOf cableFits agreedFits listFits high crowded unmatched accept pastIn
-judging = tt
+refusalDefinitions = tt
 
 abbrev pub on : ℕ → ℕ → Date
 on y m = record { year = y; month = m }
@@ -49,7 +49,7 @@ any-number :
     × (refuseAnyone 10416 (withDate (point 1 2) (on 3000 2)) 20 ≡ 2)
     × (refuseAnyone 10416 (withDate (point 1 2) (on 3000 1)) 20 ≡ 3) × (refuseAnyone 10416 (withDate (point 1 2) (on 2999 12)) 20 ≡ 20)
     × (refuseAnyone 10416 (point 1 2) 0 ≡ 0)
-unfolding judging
+unfolding refusalDefinitions
 any-number = (refl, refl, refl, refl, refl, refl, refl)
 
 -- OPENING
@@ -80,7 +80,7 @@ opening-numbers :
     × (openRefusal 10416 (opening 2023 1 1 0 2 100 noCable (1 ∷ 1 ∷ []) 1) ≡ 0)
     × (openRefusal 10416 (opening 2014 1 1 0 1 1000000 (cable 0 0 0 9) [] 7) ≡ 0)
     × (openRefusal 10416 (opening 2999 12 2 2 3 0 (cable 2000 250000 0 3) [] 0) ≡ 0)
-unfolding judging
+unfolding refusalDefinitions
 opening-numbers = (refl, refl, refl, refl, refl, refl, refl, refl, refl, refl, refl, refl, refl, refl, refl, refl, refl, refl, refl, refl)
 
 -- what is kept: P on basis 1 and 2, with a share of 0 too, the cable alone on basis 3
@@ -106,7 +106,7 @@ reading-20 :
     × (number (point 1 0) (controlHours (hours 672)) ≡ 20)
     × (number (point 1 2) (controlHours (hours 672)) ≡ 20) × (number (point 1 0) (controlVolume 5) ≡ 20) × (number (point 1 1) (controlVolume 5) ≡ 20)
     × (number (point 1 0) (neighbour 0 5) ≡ 20) × (number (point 1 0) (neighbour 3 5) ≡ 20) × (number (point 1 0) (neighbour 2 5) ≡ 0)
-unfolding judging
+unfolding refusalDefinitions
 reading-20 = (refl, refl, refl, refl, refl, refl, refl, refl, refl)
 
 abbrev out : Record → Record
@@ -121,7 +121,7 @@ reading-21 :
     × (number (denied 1 (point 2 2)) (billingVolume 5) ≡ 0)
     × (number (out (point 1 2)) (billingHours []) ≡ 21) × (number (out (point 2 2)) (controlVolume 5) ≡ 0)
     × (number (denied 2 (point 2 1)) (neighbour 1 5) ≡ 0)
-unfolding judging
+unfolding refusalDefinitions
 reading-21 = (refl, refl, refl, refl, refl, refl)
 
 -- once a month each; the lower number where two apply
@@ -131,7 +131,7 @@ reading-22 :
     × (number (withReadings (point 2 2) (withFirst (point 2 2 .readings) (givenAs 1))) (neighbour 1 5) ≡ 22)
     × (number (withReadings (point 2 2) (withFirst (point 2 2 .readings) (givenAs 1))) (neighbour 2 5) ≡ 0)
     × (number (withReadings (point 2 2) (withSecond (point 2 2 .readings) (givenAs 1))) (neighbour 2 5) ≡ 22)
-unfolding judging
+unfolding refusalDefinitions
 reading-22 = (refl, refl, refl, refl, refl)
 
 -- T hours, each at most 1,000,000; a volume at most T × 1,000,000
@@ -143,7 +143,7 @@ reading-23-24 :
     × (number (point 2 2) (billingVolume 672000000) ≡ 0)
     × (number (point 2 2) (controlVolume 672000001) ≡ 24) × (number (point 2 2) (neighbour 1 672000001) ≡ 24)
     × (number (point 2 2) (neighbour 2 672000000) ≡ 0)
-unfolding judging
+unfolding refusalDefinitions
 reading-23-24 = (refl, refl, refl, refl, refl, refl, refl, refl, refl, refl, refl)
 
 -- NETWORK FIRM
@@ -153,7 +153,7 @@ network :
     × (number (point 1 2) admission ≡ 32) × (number (out (point 1 2)) admission ≡ 0) × (number (denied 2 (point 1 2)) denial ≡ 33)
     × (number (denied 1 (point 1 2)) denial ≡ 0)
     × (number (point 1 2) permission ≡ 34) × (number (denied 1 (point 1 2)) permission ≡ 0)
-unfolding judging
+unfolding refusalDefinitions
 network = (refl, refl, refl, refl, refl, refl, refl, refl, refl, refl)
 
 -- SETTLEMENT: not T marks, and no number before. Those of whole months of marks are in the crate `whole_months`
@@ -161,12 +161,13 @@ abbrev pub closed : List ℕ → ℕ → ℕ
 closed marks n = number (point 1 2) (closing marks (zeros n))
 
 settlement : (closed [] 744 ≡ 40) × (closed (4 ∷ []) 743 ≡ 40) × (closed (zeros 671) 744 ≡ 40) × (closed (zeros 673) 744 ≡ 40)
-unfolding judging
+unfolding refusalDefinitions
 settlement = (refl, refl, refl, refl)
 
 -- FAULTS: at most 12 months back, and the same month
 repeats :
-    (faultWithinYear 24277 24289 ≡ true) × (faultWithinYear 24277 24290 ≡ false) × (faultWithinYear 24277 24277 ≡ true) × (faultWithinYear 0 24277 ≡ false)
+    (faultWithinYear 24277 24289 ≡ true) × (faultWithinYear 24277 24290 ≡ false) × (faultWithinYear 24277 24277 ≡ true)
+    × (faultWithinYear 0 24277 ≡ false)
 repeats = (refl, refl, refl, refl)
 
 abbrev faulted : ℕ → Service
@@ -191,7 +192,7 @@ denials :
     × (accept (state (denied 1 read) []) denial .point ≡ withService (point 2 2) (withDenials freshService 2))
     × (accept (state (served (point 2 2) (record { run = 5; serving = 0; denials = 2; fault = 0 })) []) permission .point .service
     ≡ record { run = 5; serving = 0; denials = 0; fault = 0 })
-unfolding judging
+unfolding refusalDefinitions
 denials = (refl, refl, refl)
 
 -- READINGS: hours go into their own row, 12 or 13, with 0 past their end and no volume; volumes touch no row
@@ -207,7 +208,7 @@ rows :
     × (after (point 1 1) (controlHours (7 ∷ [])) 9672 ≡ 7) × (after (point 1 1) (controlHours (7 ∷ [])) 8928 ≡ 0)
     × (accept (state (point 1 1) []) (billingHours (7 ∷ [])) .point ≡ withReadings (point 1 1) (withBilling (point 1 1 .readings) (givenAs 0)))
     × (accept (state (point 1 1) []) (controlHours (7 ∷ [])) .point ≡ withReadings (point 1 1) (withControl (point 1 1 .readings) (givenAs 0)))
-unfolding judging padded putRow
+unfolding refusalDefinitions padded putRow
 rows = (refl, refl, refl, refl, refl, refl, refl)
 
 volumes :
@@ -215,14 +216,14 @@ volumes :
     × (accept (state (point 2 2) []) (controlVolume 9) ≡ state (withReadings (point 2 2) (withControl (point 2 2 .readings) (givenAs 9))) [])
     × (accept (state (point 2 2) []) (neighbour 1 9) ≡ state (withReadings (point 2 2) (withFirst (point 2 2 .readings) (givenAs 9))) [])
     × (accept (state (point 2 2) []) (neighbour 2 9) ≡ state (withReadings (point 2 2) (withSecond (point 2 2 .readings) (givenAs 9))) [])
-unfolding judging
+unfolding refusalDefinitions
 volumes = (refl, refl, refl, refl)
 
 -- a failure discards the reading, its volume and row 12; an admission puts back in service and leaves all else
 discards :
     (accept (state read []) (failure 3) .point ≡ out (point 2 2)) × (at (accept (state read (set empty 8928 7)) (failure 3) .store) 8928 ≡ 0)
     × (at (accept (state read (set empty 9672 7)) (failure 3) .store) 9672 ≡ 7) × (accept (state (out read) []) admission ≡ state read [])
-unfolding judging padded putRow
+unfolding refusalDefinitions padded putRow
 discards = (refl, refl, refl, refl)
 
 -- THE PAST: no row of January 2014 holds 2013; a row of two years ago is no past but as the latest; last year's row goes before the latest,
@@ -235,7 +236,7 @@ pasts :
     × (pastIn (filled (on 2025 2) (set (zeros 12) 1 2023) 24278) ≡ pastHours (replicate 672 2))
     × (pastIn (filled (on 2025 2) (set (set (zeros 12) 1 2024) 0 2025) 24301) ≡ pastHours (replicate 696 2))
     × (pastIn (filled (on 2025 2) (set (zeros 12) 0 2025) 24301) ≡ pastHours (replicate 744 1))
-unfolding judging
+unfolding refusalDefinitions
 pasts = (refl, refl, refl, refl, refl)
 
 -- A CLOSING of December 2024 with a volume of 7, all in its first hour: on ground 1 the month becomes the past and the run is 0; on ground
@@ -265,5 +266,5 @@ begun run years latest =
 closings :
     (ended 1 .point ≡ begun 0 (set (zeros 12) 11 2024) 24300) × (ended 7 .point ≡ begun 6 (zeros 12) 0)
     × (at (ended 1 .store) 8184 ≡ 7) × (at (ended 7 .store) 8184 ≡ 0) × (at (ended 1 .store) 8928 ≡ 0) × (at (ended 7 .store) 8928 ≡ 0)
-unfolding judging padded putRow closedWith becomesPast nextMonth
+unfolding refusalDefinitions padded putRow closedWith becomesPast nextMonth
 closings = (refl, refl, refl, refl, refl, refl)

@@ -22,7 +22,8 @@ use Rattle.validity.proofs.Laws.{all, valid-from, service-from, past-from, none
 use Rattle.record.specs.declared.Record.{Record}
 use Rattle.store.specs.Store.{storeFits}
 use Rattle.store.proofs.Laws.{fits-empty}
-use Rattle.rules.specs.Calls.{Opening, Call, billingHours, controlHours, billingVolume, controlVolume, neighbour, failure, admission, denial, permission, closing, isClosing, isFault}
+use Rattle.rules.specs.Calls.{Opening, Call, billingHours, controlHours, billingVolume, controlVolume, neighbour, failure, admission, denial}
+use Rattle.rules.specs.Calls.{permission, closing, isClosing, isFault}
 use Rattle.rules.specs.Rules.{rules, becomesPast}
 use Rattle.rules.proofs.Laws.{rules-right}
 use Rattle.model.specs.Refusals.{refuse, refuseReading, closingNumber, ownRefusal, openRefusal}
@@ -42,7 +43,8 @@ basis-known k p currents place cable h =
     (λ f. rw f (by-cases (eqb k 2) (λ t. rw t) (λ g. rw g (both (eqb k 3) (cableFits cable) (rw (f, g) at h) .0))))
 
 -- a cable on basis 3
-basis-cable : (k p : ℕ) (currents : List ℕ) (place : ℕ) (cable : Cable) → basisFits k p currents place cable ≡ true → eqb k 3 ≡ true → cableFits cable ≡ true
+basis-cable : (k p : ℕ) (currents : List ℕ) (place : ℕ) (cable : Cable) → basisFits k p currents place cable ≡ true → eqb k 3 ≡ true
+    → cableFits cable ≡ true
 unfolding basisFits
 basis-cable k p currents place cable h t = rw (eqb-true k 3 t) at h
 

@@ -1,4 +1,5 @@
--- A point goes on: each accepted call that does not close the month leaves a record that passes number 2 and a store that passes 1 and 45, given ones that did. Assumes nothing.
+-- A point goes on: each accepted call that does not close the month leaves a record that passes number 2 and a store that passes 1 and 45,
+-- given ones that did. Assumes nothing.
 use Prim.Native.Nat.{ℕ, _+_, _≤_, _<_}
 use mathlib.Core.Path.{_≡_, refl}
 use mathlib.Core.Bool.{Bool, true, false, not, cond, _&&_, _||_, true≢false}
@@ -17,10 +18,12 @@ use Rattle.record.specs.declared.Readings.{Readings}
 use Rattle.record.specs.declared.Record.{Record}
 use Rattle.record.specs.Record.{notGiven, givenAs, withService, withReadings, withServing, withDenials, withBilling, withControl, withFirst, withSecond}
 use Rattle.validity.specs.Valid.{volumeLimit, valid}
-use Rattle.validity.proofs.Laws.{Valid, valid-parts, valid-from, ServiceFits, service-parts, service-from, ReadingsFit, readings-parts, readings-from, missing-fits, hours-fit, volume-fits}
+use Rattle.validity.proofs.Laws.{Valid, valid-parts, valid-from, ServiceFits, service-parts, service-from, ReadingsFit, readings-parts}
+use Rattle.validity.proofs.Laws.{readings-from, missing-fits, hours-fit, volume-fits}
 use Rattle.store.specs.Store.{asRow, putRow}
 use Rattle.store.proofs.Laws.{length-row, length-put, put-fits-month}
-use Rattle.rules.specs.Calls.{Call, billingHours, controlHours, billingVolume, controlVolume, neighbour, failure, admission, denial, permission, closing, isClosing, isFault}
+use Rattle.rules.specs.Calls.{Call, billingHours, controlHours, billingVolume, controlVolume, neighbour, failure, admission, denial, permission}
+use Rattle.rules.specs.Calls.{closing, isClosing, isFault}
 use Rattle.model.specs.Refusals.{ownRefusal}
 use Rattle.model.specs.Model.{State, state, discarded, faultWithinYear, afterFailure, oneDenial, accept, refusal, accepted}
 use Rattle.model.specs.Sound.{StateFits}
@@ -70,7 +73,8 @@ old-service : (r : Record) → Valid r → ServiceFits (r .service) (r .date)
 old-service r v = service-parts (r .service) (r .date) (v .service)
 
 -- hours written into row 12 or 13
-written : (s : State) (r : Record) (row : ℕ) (hs : List ℕ) → StateFits s → valid r ≡ true → length (r .past .years) ≡ 12 → 12 ≤ row → row ≤ 13
+written : (s : State) (r : Record) (row : ℕ) (hs : List ℕ) → StateFits s → valid r ≡ true → length (r .past .years) ≡ 12 → 12 ≤ row
+    → row ≤ 13
     → length hs ≤ 744 → noneAbove 1000000 hs ≡ true → StateFits (state r (putRow row (asRow hs) (s .store)))
 written s r row hs f v y low high l n = record {
   record-fits = v;

@@ -67,7 +67,8 @@ month-most r hs v f =
     omega (arith, eqb-true (length hs) (openHours (r .date)) (not-false _ f), open-high (r .date) (valid-parts r v .month))
 
 -- a call that is refused, with a number that is not 0
-pub refused : (s : State) (c : Call) {number : ℕ} {a : Answer} → number ≡ refusal s c → number ≢ 0 → a ≡ withoutFigures number (s .point) → Does s c a (s .store) (bufferOf c)
+pub refused : (s : State) (c : Call) {number : ℕ} {a : Answer} → number ≡ refusal s c → number ≢ 0
+    → a ≡ withoutFigures number (s .point) → Does s c a (s .store) (bufferOf c)
 unfolding answer leaves bufferAfter accepted
 refused s c {number} e n q =
     let f : eqb (refusal s c) 0 ≡ false = rw e at (ne-eqb number 0 n) in
@@ -75,7 +76,8 @@ refused s c {number} e n q =
 
 -- a call that is accepted, and has no hour buffer
 pub done : (s : State) (c : Call) {number : ℕ} {a : Answer} {after : List ℕ}
-    → number ≡ refusal s c → number ≡ 0 → figuresOf s c ≡ noFigures → hoursOut s c ≡ [] → a ≡ withoutFigures 0 (accept s c .point) → after ≡ accept s c .store
+    → number ≡ refusal s c → number ≡ 0 → figuresOf s c ≡ noFigures → hoursOut s c ≡ [] → a ≡ withoutFigures 0 (accept s c .point)
+    → after ≡ accept s c .store
     → Does s c a after []
 unfolding answer leaves bufferAfter accepted
 done s c {number} e z f h q l =
@@ -128,7 +130,8 @@ allowed o h =
     }
 
 -- an opening that is refused, and one that is accepted
-pub not-opened : (o : Opening) (store : List ℕ) {number : ℕ} {a : Answer} → number ≡ openRefusal (length store) o → number ≢ 0 → a ≡ withoutFigures number zeroRecord
+pub not-opened : (o : Opening) (store : List ℕ) {number : ℕ} {a : Answer} → number ≡ openRefusal (length store) o → number ≢ 0
+    → a ≡ withoutFigures number zeroRecord
     → Opens o store a store
 unfolding opens openLeaves openAnswer
 not-opened o store {number} e n q =
@@ -136,7 +139,8 @@ not-opened o store {number} e n q =
     record { answered = q ∙ rw (f, e); left = rw f }
 
 pub now-opened : (o : Opening) (store : List ℕ) {number : ℕ} {a : Answer} {after : List ℕ}
-    → number ≡ openRefusal (length store) o → number ≡ 0 → a ≡ withoutFigures 0 (opened o .point) → after ≡ opened o .store → Opens o store a after
+    → number ≡ openRefusal (length store) o → number ≡ 0 → a ≡ withoutFigures 0 (opened o .point) → after ≡ opened o .store
+    → Opens o store a after
 unfolding opens openLeaves openAnswer
 now-opened o store e z q l =
     let n : openRefusal (length store) o ≡ 0 = sym e ∙ z in

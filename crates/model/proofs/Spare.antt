@@ -16,7 +16,8 @@ use Rattle.calendar.specs.Calendar.{isMonth, openHours}
 use Rattle.calendar.proofs.Laws.{limits, days-high, month-hours}
 use Rattle.store.specs.Store.{asRow, withHours, withoutHours}
 use Rattle.store.proofs.Laws.{at-row, length-row, length-put, at-put-before, at-put-in, at-put-after}
-use Rattle.rules.specs.Calls.{Opening, Call, billingHours, controlHours, billingVolume, controlVolume, neighbour, failure, admission, denial, permission, closing}
+use Rattle.rules.specs.Calls.{Opening, Call, billingHours, controlHours, billingVolume, controlVolume, neighbour, failure, admission, denial}
+use Rattle.rules.specs.Calls.{permission, closing}
 use Rattle.rules.specs.Rules.{rules, becomesPast}
 use Rattle.rules.proofs.Laws.{rules-right}
 use Rattle.model.specs.Refusals.{ownRefusal}
@@ -73,7 +74,9 @@ spare-billing-hours s hs f u t =
     let e = eqb-true (length hs) (openHours (s .point .date)) (not-false _ (q .long)) in
     record {
       months = λ k l. other-row 12 hs (s .store) (f .words) (lit≤ tt) long k (monthUsed (s .point .past .years) k) (inl l) (u .months k l);
-      billing = rw (not-false (eqb (s .point .contract .billing) 1) (q .meter)) (own-row 12 hs (s .store) (f .words) (lit≤ tt) long (openHours (s .point .date)) (omega (arith, e)));
+      billing =
+          rw (not-false (eqb (s .point .contract .billing) 1) (q .meter))
+          (own-row 12 hs (s .store) (f .words) (lit≤ tt) long (openHours (s .point .date)) (omega (arith, e)));
       control = other-row 12 hs (s .store) (f .words) (lit≤ tt) long 13 _ (inr (lit< tt)) (u .control);
     }
 
@@ -86,7 +89,9 @@ spare-control-hours s hs f u t =
     record {
       months = λ k l. other-row 13 hs (s .store) (f .words) (lit≤ tt) long k (monthUsed (s .point .past .years) k) (inl (omega arith)) (u .months k l);
       billing = other-row 13 hs (s .store) (f .words) (lit≤ tt) long 12 _ (inl (lit< tt)) (u .billing);
-      control = rw (not-false (eqb (s .point .contract .control) 1) (q .meter)) (own-row 13 hs (s .store) (f .words) (lit≤ tt) long (openHours (s .point .date)) (omega (arith, e)));
+      control =
+          rw (not-false (eqb (s .point .contract .control) 1) (q .meter))
+          (own-row 13 hs (s .store) (f .words) (lit≤ tt) long (openHours (s .point .date)) (omega (arith, e)));
     }
 
 -- the row of an integral meter is not used, and was not used before its reading
@@ -124,9 +129,10 @@ spare-served s t u a b c d e = record { months = rw (a, b) (u .months); billing 
 
 -- CLOSING
 -- the row of a calendar month, which is the closed month's or another's
-row-closed : (s : State) (hs : List ℕ) (k : ℕ) → StateFits s → Unused s → isMonth (s .point .date) ≡ true → length hs ≡ openHours (s .point .date) → k < 12
+unused-closed : (s : State) (hs : List ℕ) (k : ℕ) → StateFits s → Unused s → isMonth (s .point .date) ≡ true
+    → length hs ≡ openHours (s .point .date) → k < 12
     → ZeroFrom (withHours (rowOf (s .point .date)) hs (s .store)) k (monthUsed (pastAfter true (s .point .past) (s .point .date) .years) k)
-row-closed s hs k f u m long below =
+unused-closed s hs k f u m long below =
     let d = s .point .date in
     let l = limits d m in
     let years = s .point .past .years in
@@ -146,7 +152,8 @@ row-closed s hs k f u m long below =
     rw (getD-set-other years (rowOf d) k (d .year) 0 (eqb-false k (rowOf d) g))
     (other-row (rowOf d) hs (s .store) (f .words) row short k (monthUsed years k) other (u .months k below)))
 
-spare-closing : (s : State) (marks buffer : List ℕ) → StateFits s → Unused s → accepted s (closing marks buffer) ≡ true → Unused (accept s (closing marks buffer))
+spare-closing : (s : State) (marks buffer : List ℕ) → StateFits s → Unused s → accepted s (closing marks buffer) ≡ true
+    → Unused (accept s (closing marks buffer))
 unfolding accept closedWith inputs
 spare-closing s marks buffer f u t =
     let d = s .point .date in
@@ -163,13 +170,15 @@ spare-closing s marks buffer f u t =
     let months : (k : ℕ) → k < 12 → ZeroFrom filed k (monthUsed (pastAfter (becomesPast out) (s .point .past) d .years) k) =
     λ k l.
     by-cases (becomesPast out)
-    (λ y. rw y (row-closed s (out .hours) k f u m long l))
+    (λ y. rw y (unused-closed s (out .hours) k f u m long l))
     (λ n. rw n (u .months k l)) in
     record {
       months = λ k l.
           other-row 13 [] (withoutHours 12 filed) size′ (lit≤ tt) (lit≤ tt) k _ (inl (omega arith))
           (other-row 12 [] filed size (lit≤ tt) (lit≤ tt) k _ (inl l) (months k l));
-      billing = other-row 13 [] (withoutHours 12 filed) size′ (lit≤ tt) (lit≤ tt) 12 0 (inl (lit< tt)) (own-row 12 [] filed size (lit≤ tt) (lit≤ tt) 0 (lit≤ tt));
+      billing =
+          other-row 13 [] (withoutHours 12 filed) size′ (lit≤ tt) (lit≤ tt) 12 0 (inl (lit< tt))
+          (own-row 12 [] filed size (lit≤ tt) (lit≤ tt) 0 (lit≤ tt));
       control = own-row 13 [] (withoutHours 12 filed) size′ (lit≤ tt) (lit≤ tt) 0 (lit≤ tt);
     }
 

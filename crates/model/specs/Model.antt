@@ -8,17 +8,20 @@ use lib.Dec.{eqb, leb}
 use Rattle.numbers.specs.Lists.{at}
 use Rattle.calendar.specs.declared.Date.{Date}
 use Rattle.calendar.specs.Calendar.{openHours, monthNumber, dateOf, nextMonth}
-use Rattle.sharing.specs.Shares.{rowPart}
+use Rattle.store.specs.Store.{rowPart}
 use Rattle.record.specs.declared.Service.{Service}
 use Rattle.record.specs.declared.Past.{Past}
 use Rattle.record.specs.declared.Reading.{Reading}
 use Rattle.record.specs.declared.Readings.{Readings}
 use Rattle.record.specs.declared.Record.{Record}
-use Rattle.record.specs.Record.{isSet, kwh, notGiven, givenAs, noReadings, withService, withReadings, withServing, withDenials, withRun, withBilling, withControl, withFirst, withSecond}
+use Rattle.record.specs.Record.{isSet, kwh, notGiven, givenAs, noReadings, withService, withReadings, withServing, withDenials, withRun, withBilling}
+use Rattle.record.specs.Record.{withControl, withFirst, withSecond}
 use Rattle.store.specs.Store.{asRow, withHours, withoutHours}
 use Rattle.rules.specs.declared.Figures.{Figures}
-use Rattle.rules.specs.Calls.{Call, billingHours, controlHours, billingVolume, controlVolume, neighbour, failure, admission, denial, permission, closing, bufferOf, isFault}
-use Rattle.rules.specs.Rules.{Measured, missing, hourly, whole, Stated, unstated, stated, PastHours, noPastHours, pastHours, Inputs, Outcome, countedOf, neighbourOf, rules, becomesPast, figures, noFigures}
+use Rattle.rules.specs.Calls.{Call, billingHours, controlHours, billingVolume, controlVolume, neighbour, failure, admission, denial, permission}
+use Rattle.rules.specs.Calls.{closing, bufferOf, isFault}
+use Rattle.rules.specs.Rules.{Measured, missing, hourly, whole, Stated, unstated, stated, PastHours, noPastHours, pastHours, Inputs, Outcome}
+use Rattle.rules.specs.Rules.{countedOf, neighbourOf, rules, becomesPast, figures, noFigures}
 use Rattle.model.specs.declared.Answer.{Answer}
 use Rattle.model.specs.Refusals.{refuseAnyone, ownRefusal}
 

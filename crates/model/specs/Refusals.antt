@@ -14,7 +14,8 @@ use Rattle.record.specs.declared.Service.{Service}
 use Rattle.record.specs.Record.{isSet}
 use Rattle.validity.specs.Valid.{valid, volumeLimit}
 use Rattle.store.specs.Store.{storeFits}
-use Rattle.rules.specs.Calls.{Opening, Call, billingHours, controlHours, billingVolume, controlVolume, neighbour, failure, admission, denial, permission, closing}
+use Rattle.rules.specs.Calls.{Opening, Call, billingHours, controlHours, billingVolume, controlVolume, neighbour, failure, admission, denial}
+use Rattle.rules.specs.Calls.{permission, closing}
 
 -- the number where the test holds, else the rest of the list
 unfoldable pub refuse : Bool → ℕ → ℕ → ℕ

@@ -8,6 +8,7 @@ use lib.Dec.{eqb}
 use Rattle.numbers.specs.Lists.{at}
 use Rattle.calendar.specs.declared.Date.{Date}
 use Rattle.calendar.specs.Calendar.{openHours, monthNumber}
+use Rattle.units.specs.Volumes.{greatestMonthVolume, greatestTotal}
 use Rattle.record.specs.declared.Reading.{Reading}
 use Rattle.record.specs.Record.{isSet}
 use Rattle.validity.specs.Valid.{valid}
@@ -25,7 +26,7 @@ pub record StateFits (s : State) : Type 0 where
 -- a closing that works out u leaves the run and the total within their limits
 pub record Room (s : State) (u : Outcome) : Type 0 where
   pub run : s .point .service .run < 12000
-  pub total : s .point .total .0 + u .volume ≤ 30000000000000
+  pub total : s .point .total .0 + u .volume ≤ greatestTotal
 
 -- the months since January 2014
 abbrev pub elapsed : State → ℕ
@@ -35,7 +36,7 @@ elapsed s = monthNumber (s .point .date) - 24169
 pub record Sound (s : State) : Type 0 where
   pub fits : StateFits s
   pub run : s .point .service .run ≤ elapsed s
-  pub total : s .point .total .0 ≤ 2232000000 * elapsed s
+  pub total : s .point .total .0 ≤ greatestMonthVolume * elapsed s
 
 -- row r is 0 from its hour `used` on
 abbrev pub ZeroFrom : List ℕ → ℕ → ℕ → Type 0

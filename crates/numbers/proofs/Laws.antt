@@ -37,7 +37,7 @@ pub first-of : (a b : Bool) → a || b ≡ true → b ≡ false → a ≡ true
 first-of true b e f = refl
 first-of false b e f = absurd (false≢true (sym f ∙ e))
 
-or-true : (a : Bool) → a || true ≡ true
+pub or-true : (a : Bool) → a || true ≡ true
 or-true true = refl
 or-true false = refl
 

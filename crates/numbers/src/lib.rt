@@ -3,7 +3,7 @@ ghost use mathlib.Core.Path.{_≡_};
 ghost use mathlib.Core.Bool.{cond};
 ghost use Prim.Native.Nat.{min, _≤_};
 ghost use lib.ListN.{length};
-ghost use Rattle.numbers.specs.Lists.{at, zeros, noneAbove};
+ghost use Rattle.numbers.specs.Lists.{sumTo, at, zeros, noneAbove};
 ghost use Rattle.numbers.specs.Rounding.{halfUp};
 
 // A number of 32 bits in 64, so that a sum or a product of it fits.
@@ -92,4 +92,18 @@ pub fn word_at(words: &[u32], k: usize) -> u64
     ensures { λ r. ⌜ (r ≡ at (now (words .entry)) k) × (r ≤ 4294967295) ⌝ }
 {
     if k < words.len() { words[k] as u64 } else { 0 }
+}
+
+// The sum of the first n words.
+pub fn sum_first(words: &[u32], n: usize) -> u64
+    requires { ⌜ n ≤ 744 ⌝ }
+    ensures { λ r. ⌜ r ≡ sumTo (at (now (words .entry))) n ⌝ }
+{
+    let mut s: u64 = 0;
+    let mut k = 0;
+    while k < n {
+        s += word_at(words, k);
+        k += 1;
+    }
+    s
 }

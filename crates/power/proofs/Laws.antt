@@ -13,6 +13,7 @@ use lib.ListN.{length, List·getD-eq-default}
 use Rattle.numbers.specs.Lists.{allTo, sumTo, at}
 use Rattle.numbers.proofs.Laws.{by-cases, both, either, cond-most, all-at, sum-most}
 use Rattle.numbers.proofs.Rounds.{half-up-most}
+use Rattle.units.specs.Volumes.{greatestVolumeRead, greatestMonthVolume}
 use Rattle.sharing.specs.Shares.{monthFits, weightsFit, shareIn}
 use Rattle.sharing.proofs.Rule.{shares-most}
 use Rattle.power.specs.declared.Cable.{Cable}
@@ -97,8 +98,8 @@ shared-in p currents place h =
     let a = agreed-limits p (both (agreedFits p) (listFits currents place) h .0) in
     let l = list-limits currents place (both (agreedFits p) (listFits currents place) h .1) in
     let n = length currents in
-    let s : sumTo (at currents) n ≤ 2232000000 = omega (arith, sum-most (at currents) 2000 n (λ k m. l .high k)) in
-    rw (le-leb p 744000000 (omega arith), le-leb 1 n (l .some), le-leb n 744 (omega arith), le-leb n n (le-refl n), le-leb _ 2232000000 s)
+    let s : sumTo (at currents) n ≤ greatestMonthVolume = omega (arith, sum-most (at currents) 2000 n (λ k m. l .high k)) in
+    rw (le-leb p greatestVolumeRead (omega arith), le-leb 1 n (l .some), le-leb n 744 (omega arith), le-leb n n (le-refl n), le-leb _ greatestMonthVolume s)
 
 -- law: P is at most 1,000,000 on every basis
 pub power-most : (basis p : ℕ) (currents : List ℕ) (place : ℕ) (cable : Cable)

@@ -12,7 +12,8 @@ use Rattle.model.proofs.Laws.{passed, reading-passed, month-most}
 
 -- its hours stand in its row
 pub hours-written : {row n : ℕ} (r : Record) (store hs : List ℕ) (t20 t21 t22 : Bool) → row ≤ 13
-    → n ≡ refuseAnyone (length store) r (refuseReading t20 t21 t22 (notMonth r hs) (hourAbove hs)) → n ≡ 0 → writtenIn row hs store ≡ withHours row hs store
+    → n ≡ refuseAnyone (length store) r (refuseReading t20 t21 t22 (notMonth r hs) (hourAbove hs)) → n ≡ 0
+    → writtenIn row hs store ≡ withHours row hs store
 hours-written r store hs t20 t21 t22 l e z =
     let p = passed (sym e ∙ z) in
     written-in _ hs store l (month-most r hs (p .sound) (reading-passed (p .own) .long)) (p .size)

@@ -57,11 +57,11 @@ pasts :
 unfolding pastMonth dateOf
 pasts = (refl, refl, refl, refl, refl)
 
-unfoldable pub working : Unit {0}
+unfoldable pub reasonDefinitions : Unit {0}
 unfolding reasonsOf clauseOf volumeRead pastMonth comparedIn comparedBilling comparedControl comparedPast inputs measuredIn statedIn pastIn
     countedOf neighbourOf powerOf
     openHours monthHours monthDays isMonth leapYear dateOf formula halfUp peakCount capacitySum portion taken spread sharesOver stretched
-working = tt
+reasonDefinitions = tt
 
 -- January 2023 with marks, R, billing and control readings, N, past
 abbrev pub january : List ℕ → ℕ → Measured → Measured → ℕ → PastHours → Inputs
@@ -80,7 +80,7 @@ sums :
     (comparedIn (january (marked 3) 2 missing (whole 20) 4 row) ≡ 0) × (comparedIn (january (marked 2) 3 missing (whole 20) 4 row) ≡ 0)
     × (comparedIn (january (marked 3) 3 missing (whole 20) 4 noPastHours) ≡ 0) × (comparedIn (january (marked 3) 3 (whole 20) (whole 20) 4 row) ≡ 0)
     × (comparedIn (january (marked 3) 3 missing (hourly (5 ∷ [])) 4 row) ≡ 0) × (comparedIn (january (marked 3) 3 missing missing 4 row) ≡ 0)
-unfolding working
+unfolding reasonDefinitions
 sums = (refl, refl, refl, refl, refl, refl)
 
 -- without a reading, in service, with two denials: R 3, whatever the run of 0
@@ -98,5 +98,5 @@ plain-answer :
       past = noDate;
       compared = kwh 0;
     }
-unfolding working
+unfolding reasonDefinitions
 plain-answer = refl

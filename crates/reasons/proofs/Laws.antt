@@ -11,7 +11,8 @@ use lib.Dec.{eqb, leb, ltb}
 use Rattle.numbers.specs.Lists.{at}
 use Rattle.numbers.proofs.Laws.{by-cases, both}
 use Rattle.calendar.specs.Calendar.{openHours, monthNumber, isMonthNumber, dateOf, dateIn}
-use Rattle.sharing.specs.Shares.{shares, stretched, rowPart}
+use Rattle.sharing.specs.Shares.{shares, stretched}
+use Rattle.store.specs.Store.{rowPart}
 use Rattle.marks.specs.declared.Survey.{Survey}
 use Rattle.marks.specs.Marks.{peakCount, surveyOf, capacitySum}
 use Rattle.marks.specs.Peak.{peakPart}
@@ -22,7 +23,9 @@ use Rattle.validity.specs.Valid.{valid}
 use Rattle.validity.proofs.Laws.{valid-parts, past-parts}
 use Rattle.store.specs.Store.{asRow}
 use Rattle.rules.specs.Calls.{Call}
-use Rattle.rules.specs.Rules.{Measured, missing, hourly, whole, PastHours, noPastHours, pastHours, Inputs, countedOf, hoursIn, peaksIn, daysIn, pointPower, byPeaks, byWeights, asRead, evenly, byContract, onPast, groundSixIn, onControlPast, onControl, onBilling, rules}
+use Rattle.rules.specs.Rules.{Measured, missing, hourly, whole, PastHours, noPastHours, pastHours, Inputs, countedOf, hoursIn, peaksIn, daysIn}
+use Rattle.rules.specs.Rules.{pointPower, byPeaks, byWeights, asRead, evenly, byContract, onPast, groundSixIn, onControlPast, onControl, onBilling}
+use Rattle.rules.specs.Rules.{rules}
 use Rattle.model.specs.Model.{State, state, measuredIn, rowHours, lastYear, pastIn, inputs, refusal, accepted}
 use Rattle.grounds.specs.declared.past.PastMonth.{PastMonth}
 use Rattle.grounds.specs.Found.{hoursFrom, PastFound}
@@ -44,7 +47,8 @@ pub past-last-year : (r : Record) → at (r .past .years) (r .date .month - 1) �
 unfolding pastMonth
 past-last-year r e = rw (eq-eqb _ _ e)
 
-pub past-latest : (r : Record) → valid r ≡ true → at (r .past .years) (r .date .month - 1) ≢ r .date .year - 1 → dateIn (r .past .latest) ≡ pastMonth r
+pub past-latest : (r : Record) → valid r ≡ true → at (r .past .years) (r .date .month - 1) ≢ r .date .year - 1
+    → dateIn (r .past .latest) ≡ pastMonth r
 unfolding pastMonth dateIn
 past-latest r v n =
     rw (ne-eqb (at (r .past .years) (r .date .month - 1)) (r .date .year - 1) n)
@@ -67,13 +71,15 @@ unfolding monthNumber
 year-there r v z = omega (arith, month-limits r v)
 
 -- THE PAST IS THE PAST MONTH'S: none where its year is 0, else its hours
-pub past-is : (s : State) → valid (s .point) ≡ true → pastIn s ≡ cond (eqb (pastMonth (s .point) .year) 0) noPastHours (pastHours (rowHours s (pastMonth (s .point))))
+pub past-is : (s : State) → valid (s .point) ≡ true
+    → pastIn s ≡ cond (eqb (pastMonth (s .point) .year) 0) noPastHours (pastHours (rowHours s (pastMonth (s .point))))
 unfolding pastIn pastMonth
 past-is s v =
     let r = s .point in
     by-cases (eqb (at (r .past .years) (r .date .month - 1)) (r .date .year - 1))
     (λ t. rw (t, ne-eqb (r .date .year - 1) 0 (year-there r v)))
-    (λ f. rw f (by-cases (eqb (r .past .latest) 0) (λ t. rw t) (λ n. rw (n, ne-eqb (dateOf (r .past .latest) .year) 0 (latest-there r v (eqb-false _ _ n))))))
+    (λ f. rw f (by-cases (eqb (r .past .latest) 0) (λ t. rw t)
+    (λ n. rw (n, ne-eqb (dateOf (r .past .latest) .year) 0 (latest-there r v (eqb-false _ _ n))))))
 
 -- C', as the code tests for it
 billing-compared : (i : Inputs) (kind : ℕ) (g : Reading) (hs : List ℕ)
@@ -90,7 +96,8 @@ control-compared i kind g hs =
 
 past-compared : (i : Inputs) (v : ℕ) (store : List ℕ) (p : PastMonth)
     → comparedPast i v (hoursFrom store p)
-    ≡ cond (p .found && (leb 3 (i .counted) && ltb 0 (peaksIn i))) (capacitySum (i .marks) (shares v (stretched (rowPart store (p .row) (p .hours)) (hoursIn i)))) 0
+    ≡ cond (p .found && (leb 3 (i .counted) && ltb 0 (peaksIn i)))
+    (capacitySum (i .marks) (shares v (stretched (rowPart store (p .row) (p .hours)) (hoursIn i)))) 0
 unfolding comparedPast hoursFrom
 past-compared i v store p = by-cases (p .found) (λ t. rw t) (λ f. rw f)
 
@@ -102,7 +109,8 @@ six-tests true true true false f g x = refl
 six-tests true true true true false g x = refl
 six-tests true true true true true g x = refl
 
-compared-when : (i : Inputs) (b k : ℕ) (g h : Reading) (hs ks store : List ℕ) (p : PastMonth) → i .billing ≡ measuredIn b g hs → i .control ≡ measuredIn k h ks
+compared-when : (i : Inputs) (b k : ℕ) (g h : Reading) (hs ks store : List ℕ) (p : PastMonth) → i .billing ≡ measuredIn b g hs
+    → i .control ≡ measuredIn k h ks
     → i .past ≡ hoursFrom store p
     → comparedIn i
     ≡ cond (not (isSet (g .given)) && isSet (h .given) && not (eqb k 1) && p .found && leb 3 (i .counted) && ltb 0 (peaksIn i))
@@ -118,19 +126,24 @@ compared-when i b k g h hs ks store p e f past =
 -- the test of the code: no billing reading, control, integral, past, R at least 3, n > 0
 abbrev pub isDue : Record → PastMonth → ℕ → ℕ → Bool
 isDue r p counted peaks =
-    not (isSet (r .readings .billing .given)) && isSet (r .readings .control .given) && not (eqb (r .contract .control) 1) && p .found && leb 3 counted && ltb 0 peaks
+    not (isSet (r .readings .billing .given)) && isSet (r .readings .control .given) && not (eqb (r .contract .control) 1) && p .found
+    && leb 3 counted && ltb 0 peaks
 
 compared-is : (r : Record) (store marks : List ℕ) (p : PastMonth) → PastFound r p
     → comparedIn (inputs (state r store) marks)
     ≡ cond (isDue r p (inputs (state r store) marks .counted) (peakCount marks))
-    (capacitySum marks (shares (r .readings .control .volume .0 - inputs (state r store) marks .neighbour) (stretched (rowPart store (p .row) (p .hours)) (openHours (r .date))))) 0
+    (capacitySum marks
+    (shares (r .readings .control .volume .0 - inputs (state r store) marks .neighbour)
+    (stretched (rowPart store (p .row) (p .hours)) (openHours (r .date))))) 0
 unfolding inputs
 compared-is r store marks p past =
     compared-when (inputs (state r store) marks) _ _ (r .readings .billing) (r .readings .control) _ _ store p refl refl (past .same store)
 
-module _ {r : Record} {store marks buffer : List ℕ} (k : Known r store marks buffer) {p : PastMonth} (past : PastFound r p) {survey : Survey} (e : survey ≡ surveyOf marks)
+module _ {r : Record} {store marks buffer : List ℕ} (k : Known r store marks buffer) {p : PastMonth} (past : PastFound r p) {survey : Survey}
+    (e : survey ≡ surveyOf marks)
     {n : ℕ} (f : n ≡ countedOf (r .service .run) (r .service .denials)) where
-  pub compared-due : isDue r p n (survey .peaks) ≡ true → {v t c : ℕ} {after : List ℕ} → v ≡ r .readings .control .volume .0 - inputs (state r store) marks .neighbour
+  pub compared-due : isDue r p n (survey .peaks) ≡ true → {v t c : ℕ} {after : List ℕ}
+      → v ≡ r .readings .control .volume .0 - inputs (state r store) marks .neighbour
       → t ≡ openHours (r .date) → after ≡ asRow (shares v (stretched (rowPart store (p .row) (p .hours)) t)) → c ≡ capacitySum marks after
       → c ≡ comparedIn (inputs (state r store) marks)
   unfolding inputs
@@ -165,7 +178,8 @@ six-past i v (pastHours hs) =
     let ws = stretched hs (hoursIn i) in
     by-cases (leb (i .counted) 2)
     (λ t. rw (t, lt-leb 3 (i .counted) (omega (arith, leb-true (i .counted) 2 t))) (six-not i v))
-    (λ f. rw (f, le-leb 3 (i .counted) (omega (arith, leb-false (i .counted) 2 f))) (six-or-five (groundSixIn i v (shares v ws)) i v ws ∙ six-peaks i v (shares v ws)))
+    (λ f. rw (f, le-leb 3 (i .counted) (omega (arith, leb-false (i .counted) 2 f)))
+    (six-or-five (groundSixIn i v (shares v ws)) i v ws ∙ six-peaks i v (shares v ws)))
 
 contract-other : (i : Inputs) → eqb (byContract i .ground) 6 ≡ false
 unfolding byContract evenly byWeights

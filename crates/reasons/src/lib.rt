@@ -16,7 +16,7 @@ use marks::survey_marks;
 use parts::clause_of;
 use parts::compared;
 use parts::past_month;
-use parts::reading_of;
+use parts::volume_read;
 use record::Record;
 use rules::Reasons;
 use units::Kw;
@@ -47,7 +47,7 @@ fn all_reasons(r: Record, store: &[u32], marks: &[u8], hours: &mut [u32]) -> Rea
 {
     let survey = survey_marks(marks);
     let clause = clause_of(r);
-    let reading = reading_of(r);
+    let reading = volume_read(r);
     let neighbour = neighbour_volume(r.readings);
     let power = point_power(r.contract);
     let counted = counted(r.service);

@@ -34,7 +34,7 @@ pub(crate) fn clause_of(r: Record) -> u32
 
 // The reading that V comes from: that of an integral billing meter, or without a billing reading that of an integral
 // control meter; else 0.
-pub(crate) fn reading_of(r: Record) -> Kwh
+pub(crate) fn volume_read(r: Record) -> Kwh
     ensures { λ v. ⌜
         ((hs ks : List ℕ)
         → v .0 ≡ volumeRead (measuredIn (r .contract .billing) (r .readings .billing) hs) (measuredIn (r .contract .control) (r .readings .control) ks))

@@ -67,52 +67,55 @@ past = pastHours (set (zeros 744) 10 5)
 abbrev pub GroundAndVolume : Inputs → ℕ → ℕ → Type 0
 GroundAndVolume i g v = (rules i .ground ≡ g) × (rules i .volume ≡ v)
 
-unfoldable pub working : Unit {0}
+unfoldable pub ruleDefinitions : Unit {0}
 unfolding rules onBilling onControl onControlPast onPast byContract evenly byPeaks byWeights asRead groundSixIn powerOf openHours monthHours
     monthDays isMonth leapYear formula halfUp
     peakPart peakCount workingDays capacitySum capacityOf portion taken spread sharesOver stretched figures
-working = tt
+ruleDefinitions = tt
 
 -- as read, and B - N, never below nil
 ground-1 : GroundAndVolume (january (agreed 1) plain 1 (hourly (10 ∷ 20 ∷ [])) (whole 9) 4 past) 1 30
-unfolding working
+unfolding ruleDefinitions
 ground-1 = (refl, refl)
 
-ground-2 : GroundAndVolume (january (agreed 1) plain 1 (whole 10) (whole 9) 4 past) 2 6 × GroundAndVolume (january (agreed 1) plain 1 (whole 3) (whole 9) 4 past) 2 0
-unfolding working
+ground-2 : GroundAndVolume (january (agreed 1) plain 1 (whole 10) (whole 9) 4 past) 2 6
+    × GroundAndVolume (january (agreed 1) plain 1 (whole 3) (whole 9) 4 past) 2 0
+unfolding ruleDefinitions
 ground-2 = ((refl, refl), (refl, refl))
 
 ground-3 : GroundAndVolume (january (agreed 1) plain 1 missing (hourly (5 ∷ [])) 4 past) 3 5
-unfolding working
+unfolding ruleDefinitions
 ground-3 = (refl, refl)
 
 -- with R 2 by the past; with R 3 by the peak rule, where no hour is a peak; and where there is no past
 ground-4 : GroundAndVolume (january (agreed 1) plain 2 missing (whole 9) 2 past) 4 7
-unfolding working
+unfolding ruleDefinitions
 ground-4 = (refl, refl)
 
-ground-5 : GroundAndVolume (january (agreed 1) plain 3 missing (whole 9) 2 past) 5 7 × GroundAndVolume (january (agreed 1) plain 1 missing (whole 9) 2 noPastHours) 5 7
-unfolding working
+ground-5 : GroundAndVolume (january (agreed 1) plain 3 missing (whole 9) 2 past) 5 7
+    × GroundAndVolume (january (agreed 1) plain 1 missing (whole 9) 2 noPastHours) 5 7
+unfolding ruleDefinitions
 ground-5 = ((refl, refl), (refl, refl))
 
 -- a day with a peak and capacity hour, in which ground 4 would put all of V 7: A 1, n 1, d 1, C' 7, so the past; with P 7, A 7, the peak rule
 ground-6 :
     (groundSixIn (january (agreed 1) (set (zeros 24) 10 3) 3 missing (whole 9) 2 past) 7 (set (zeros 11) 10 7) ≡ true)
     × (groundSixIn (january (agreed 7) (set (zeros 24) 10 3) 3 missing (whole 9) 2 past) 7 (set (zeros 11) 10 7) ≡ false)
-unfolding working
+unfolding ruleDefinitions
 ground-6 = (refl, refl)
 
 -- without a control reading: R 2 and a past; else the contract
 ground-7 : rules (january (agreed 1) plain 2 missing missing 4 past) .ground ≡ 7
-unfolding working
+unfolding ruleDefinitions
 ground-7 = refl
 
-ground-8 : GroundAndVolume (january (agreed 5) plain 3 missing missing 4 past) 8 3720 × GroundAndVolume (january (agreed 5) plain 1 missing missing 4 noPastHours) 8 3720
-unfolding working
+ground-8 : GroundAndVolume (january (agreed 5) plain 3 missing missing 4 past) 8 3720
+    × GroundAndVolume (january (agreed 5) plain 1 missing missing 4 noPastHours) 8 3720
+unfolding ruleDefinitions
 ground-8 = ((refl, refl), (refl, refl))
 
 ground-9 : GroundAndVolume (january cabled plain 3 missing missing 0 past) 9 30802
-unfolding working
+unfolding ruleDefinitions
 ground-9 = (refl, refl)
 
 -- what a closing of two days returns: V 7, C 4 + 3 in their capacity hours, d 2, capacity 7 / 2 rounded half up
@@ -120,5 +123,5 @@ abbrev twoDays : Figures
 twoDays = figures (asRead 1 (set (set (zeros 48) 10 4) 34 3)) (set (set (zeros 48) 10 3) 34 2)
 
 returned : (twoDays .ground ≡ 1) × (twoDays .volume .0 ≡ 7) × (twoDays .sum .0 ≡ 7) × (twoDays .days ≡ 2) × (twoDays .capacity .0 ≡ 4)
-unfolding working
+unfolding ruleDefinitions
 returned = (refl, refl, refl, refl, refl)

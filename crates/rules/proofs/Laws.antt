@@ -1,4 +1,5 @@
--- The rules are right of every input that a point can bring: the hours are those of the month, sum to the volume, and each is near its exact share. Assumes nothing.
+-- The rules are right of every input that a point can bring: the hours are those of the month, sum to the volume, and each is near its
+-- exact share. Assumes nothing.
 use Prim.Native.Nat.{ℕ, _-_, _*_, _≤_, _<_}
 use mathlib.Core.Path.{_≡_, refl, sym, _∙_}
 use mathlib.Core.Bool.{true, false, not, _||_, true≢false}
@@ -9,6 +10,7 @@ use lib.Dec.{eqb, leb, ltb, lit≤}
 use lib.ListN.{length}
 use Rattle.numbers.specs.Lists.{tab, sum, at, noneAbove}
 use Rattle.numbers.proofs.Laws.{by-cases, length-tab, at-tab, sum-most, cond-most, sum-at, none-above-at, none-above-from}
+use Rattle.units.specs.Volumes.{greatestMonthVolume}
 use Rattle.sharing.specs.Shares.{ones, one, every, shares, pastAt, stretched}
 use Rattle.sharing.proofs.Rule.{length-shares, sum-shares, near-shares}
 use Rattle.power.specs.Power.{formula}
@@ -18,7 +20,9 @@ use Rattle.marks.specs.Peak.{peakRule}
 use Rattle.marks.proofs.Laws.{peaks-most}
 use Rattle.marks.proofs.Rule.{sum-peak-rule, length-peak-rule, peak-rule-most, peak-near, other-near}
 use Rattle.contract.specs.Contract.{powerOf}
-use Rattle.rules.specs.Rules.{Measured, missing, hourly, whole, PastHours, noPastHours, pastHours, Inputs, hoursIn, pointPower, asRead, byWeights, byPeaks, evenly, byContract, onPast, groundSixIn, onControlPast, onControl, onBilling, rules, becomesPast, isMissed}
+use Rattle.rules.specs.Rules.{Measured, missing, hourly, whole, PastHours, noPastHours, pastHours, Inputs, hoursIn, pointPower, asRead}
+use Rattle.rules.specs.Rules.{byWeights, byPeaks, evenly, byContract, onPast, groundSixIn, onControlPast, onControl, onBilling, rules}
+use Rattle.rules.specs.Rules.{becomesPast, isMissed}
 use Rattle.rules.specs.Right.{Right, MeasuredFits, PastHoursFit, InputsFit}
 
 -- the sum of a month's hours of at most k each
@@ -40,7 +44,8 @@ as-read g k t hs e m l n = record {
 }
 
 -- BY WEIGHTS, on a ground other than 1 and 2
-by-weights : (g v t : ℕ) (ws : List ℕ) → eqb g 1 || eqb g 2 ≡ false → length ws ≡ t → 0 < t → v ≤ 2232000000 → Right t (byWeights g v ws)
+by-weights : (g v t : ℕ) (ws : List ℕ) → eqb g 1 || eqb g 2 ≡ false → length ws ≡ t → 0 < t → v ≤ greatestMonthVolume
+    → Right t (byWeights g v ws)
 unfolding byWeights becomesPast
 by-weights g v t ws other e any l =
     let hours : 0 < length ws = omega arith in
@@ -108,7 +113,8 @@ module _ (i : Inputs) (fit : InputsFit i) where
   by-contract =
       by-cases (eqb (i .contract .basis) 3)
       (λ t. rw t (by-even 9 (formula (i .contract .cable) (hoursIn i)) refl (formula-most (i .contract .cable) (hoursIn i) (fit .cable t))))
-      (λ f. rw f (by-even 8 (hoursIn i * pointPower i) refl (omega (arith, mul-comm (hoursIn i) (pointPower i), mul-le-mul-left (hoursIn i) power-small, mul-comm (hoursIn i) 1000000))))
+      (λ f. rw f (by-even 8 (hoursIn i * pointPower i) refl
+      (omega (arith, mul-comm (hoursIn i) (pointPower i), mul-le-mul-left (hoursIn i) power-small, mul-comm (hoursIn i) 1000000))))
 
   -- the past of a month
   past-small : (hs : List ℕ) → noneAbove 3000000 hs ≡ true → noneAbove 3000000 (stretched hs (hoursIn i)) ≡ true
@@ -136,7 +142,7 @@ module _ (i : Inputs) (fit : InputsFit i) where
   unfolding onControlPast
   on-control-past v noPastHours l = by-peaks 5 v l
   on-control-past v (pastHours hs) l =
-      let most : v ≤ 2232000000 = omega (arith, short-month) in
+      let most : v ≤ greatestMonthVolume = omega (arith, short-month) in
       by-cases (leb (i .counted) 2)
       (λ t. rw t (by-weights 4 v (hoursIn i) (stretched hs (hoursIn i)) refl (past-long hs) long-month most))
       (λ f.

@@ -6,6 +6,7 @@ use mathlib.Core.List.{List}
 use lib.ListN.{length}
 use lib.Dec.{eqb}
 use Rattle.numbers.specs.Lists.{sum, at, noneAbove}
+use Rattle.units.specs.Volumes.{greatestMonthVolume}
 use Rattle.power.specs.Power.{cableFits}
 use Rattle.marks.specs.Marks.{crowded}
 use Rattle.rules.specs.Rules.{Measured, missing, hourly, whole, PastHours, noPastHours, pastHours, Inputs, Share, Outcome, hoursIn, becomesPast}
@@ -21,7 +22,7 @@ pub record Right (t : ℕ) (u : Outcome) : Type 0 where
   pub sums : sum (u .hours) ≡ u .volume
   pub near : (h : ℕ) → h < t → NearShare (at (u .hours) h) (u .exact h)
   -- at most 744 × 3,000,000
-  pub most : u .volume ≤ 2232000000
+  pub most : u .volume ≤ greatestMonthVolume
   -- the hours of ground 1 or 2 fit a row
   pub small : becomesPast u ≡ true → noneAbove 3000000 (u .hours) ≡ true
 

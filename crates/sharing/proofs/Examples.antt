@@ -3,7 +3,7 @@ use mathlib.Core.Path.{_≡_, refl}
 use mathlib.Core.Bool.{true, false}
 use mathlib.Core.List.{[], _∷_}
 use lib.ListN.{replicate}
-use Rattle.sharing.specs.Shares.{portion, taken, spread, sharesOver, apartAt, sharesApart, shares, stretched, chosenAt, monthFits, weightsFit, rowFits, shareIn}
+use Rattle.sharing.specs.Shares.{portion, taken, spread, sharesOver, apartAt, sharesApart, shares, stretched, chosenAt, monthFits, weightsFit, shareIn}
 
 -- over the first and the third of three hours: by their weights; by 1 each where these sum to 0; and over all where none is chosen
 pub selections :
@@ -36,12 +36,8 @@ pub limits :
     × (monthFits 0 744 743 ≡ false)
     × (weightsFit 2232000000 ≡ true)
     × (weightsFit 2232000001 ≡ false)
-    × (rowFits 10416 13 744 ≡ true)
-    × (rowFits 10416 14 0 ≡ false)
-    × (rowFits 10416 0 745 ≡ false)
-    × (rowFits 10415 0 0 ≡ false)
-unfolding monthFits weightsFit rowFits
-limits = (refl, refl, refl, refl, refl, refl, refl, refl, refl, refl, refl, refl)
+unfolding monthFits weightsFit
+limits = (refl, refl, refl, refl, refl, refl, refl, refl)
 
 -- one place of a list, a place outside it, and a number that does not fit
 pub places :

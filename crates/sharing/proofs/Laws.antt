@@ -1,7 +1,8 @@
 -- What holds of a sharing by weights with a sum above 0, for any number of hours. Assumes nothing.
 use mathlib.Core.Path.{_≡_, sym, ap, ap₂, _∙_}
 use Prim.Native.Nat.{ℕ, zero, suc, _+_, _-_, _*_, _/_, _≤_, _<_}
-use native.Mathlib.Nat.{mul-zero, zero-div, mul-div-cancel, mul-le-mul-left, mul-add, mul-comm, le-add-right, le-trans, le-step, le-refl, le-div-iff-mul-le, div-mul-le-self, div-le-of-le-mul, lt-div-mul-add, add-mul, sub-add-cancel}
+use native.Mathlib.Nat.{mul-zero, zero-div, mul-div-cancel, mul-le-mul-left, mul-add, mul-comm, le-add-right, le-trans, le-step, le-refl}
+use native.Mathlib.Nat.{le-div-iff-mul-le, div-mul-le-self, div-le-of-le-mul, lt-div-mul-add, add-mul, sub-add-cancel}
 use native.Mathlib.Omega.{arith}
 use native.Mathlib.Decide.{decLt}
 use lib.ListN.{length}
@@ -71,7 +72,16 @@ module _ (v n : ℕ) (w : ℕ → ℕ) (some : 0 < sumTo w n) where
   pub share-most : (h k : ℕ) → v * w h ≤ k * sumTo w n → share v n w h ≤ k
   share-most h k l =
       elim (decLt k (share v n w h)) [
-        | yes g ↦ absurd (omega (arith, near-share h .below, add-mul (suc k) 0 (sumTo w n), mul-le-mul-left (sumTo w n) g, mul-comm (sumTo w n) (suc k), mul-comm (sumTo w n) (share v n w h), add-mul k 1 (sumTo w n)))
+        | yes g ↦ absurd
+            (omega (
+              arith,
+              near-share h .below,
+              add-mul (suc k) 0 (sumTo w n),
+              mul-le-mul-left (sumTo w n) g,
+              mul-comm (sumTo w n) (suc k),
+              mul-comm (sumTo w n) (share v n w h),
+              add-mul k 1 (sumTo w n),
+            ))
         | no f ↦ omega arith
       ]
 

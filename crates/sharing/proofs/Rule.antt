@@ -11,7 +11,9 @@ use lib.Dec.{eqb, leb}
 use lib.ListN.{length, List·getD-eq-default}
 use Rattle.numbers.specs.Lists.{tab, sumTo, sum, at, padded}
 use Rattle.numbers.proofs.Laws.{sum-tab, sum-same, sum-ones, sum-both, tab-same, length-tab, at-tab, by-cases, both, and-false, cond-most}
-use Rattle.sharing.specs.Shares.{one, others, within, orWeights, taken, share, spread, sharesOver, apartAt, sharesApart, shares, every, pastAt, monthFits, weightsFit, shareIn, rowFits, Shared}
+use Rattle.units.specs.Volumes.{greatestVolumeRead}
+use Rattle.sharing.specs.Shares.{one, others, within, orWeights, taken, share, spread, sharesOver, apartAt, sharesApart, shares, every}
+use Rattle.sharing.specs.Shares.{pastAt, monthFits, weightsFit, shareIn, Shared}
 use Rattle.sharing.specs.Underway.{MonthFits}
 use Rattle.sharing.proofs.Laws.{Near, sum-spread, sum-share, near-share, share-whole, length-spread, at-spread, share-same, spread-same}
 
@@ -39,7 +41,8 @@ taken-some n chosen w p = rw (taken-sum n chosen w) (outer (eqb (sumTo (within c
     inner true e = p
     inner false e = pos-of-ne-zero (eqb-false _ _ e)
 
-    outer : (b : Bool) → eqb (sumTo (within chosen w) n) 0 ≡ b → 0 < cond b (cond (eqb (sumTo (within chosen one) n) 0) n (sumTo (within chosen one) n)) (sumTo (within chosen w) n)
+    outer : (b : Bool) → eqb (sumTo (within chosen w) n) 0 ≡ b
+        → 0 < cond b (cond (eqb (sumTo (within chosen one) n) 0) n (sumTo (within chosen one) n)) (sumTo (within chosen w) n)
     outer true e = inner (eqb (sumTo (within chosen one) n) 0) refl
     outer false e = pos-of-ne-zero (eqb-false _ _ e)
 
@@ -103,13 +106,15 @@ taken-every n w h = by-cases (eqb (sumTo w n) 0)
     (λ f. rw f (sum-same h (taken n every w) w (λ k l. taken-given n w (pos-of-ne-zero (eqb-false _ _ f)) k)))
 
 -- weights may be given as a list or as a function
-pub taken-same : (n : ℕ) (chosen : ℕ → Bool) (w u : ℕ → ℕ) → ((h : ℕ) → h < n → w h ≡ u h) → (h : ℕ) → h < n → taken n chosen w h ≡ taken n chosen u h
+pub taken-same : (n : ℕ) (chosen : ℕ → Bool) (w u : ℕ → ℕ) → ((h : ℕ) → h < n → w h ≡ u h) → (h : ℕ) → h < n
+    → taken n chosen w h ≡ taken n chosen u h
 unfolding taken
 taken-same n chosen w u e h l =
     rw (sum-same n (within chosen w) (within chosen u) (λ k m. rw (e k m)), e h l)
 
 -- selections that agree in the hours take the same weights
-pub chosen-same : (n : ℕ) (f g : ℕ → Bool) (w : ℕ → ℕ) → ((h : ℕ) → h < n → f h ≡ g h) → (h : ℕ) → h < n → taken n f w h ≡ taken n g w h
+pub chosen-same : (n : ℕ) (f g : ℕ → Bool) (w : ℕ → ℕ) → ((h : ℕ) → h < n → f h ≡ g h) → (h : ℕ) → h < n
+    → taken n f w h ≡ taken n g w h
 unfolding taken
 chosen-same n f g w e h l =
     rw (sum-same n (within f w) (within g w) (λ k m. rw (e k m)), sum-same n (within f one) (within g one) (λ k m. rw (e k m)), e h l)
@@ -181,9 +186,9 @@ apart-same a b n f g e =
 pub month-fits : {v t room : ℕ} → monthFits v t room ≡ true → MonthFits v t room
 unfolding monthFits
 month-fits {v} {t} {room} e =
-    let p = both (leb v 744000000 && leb 1 t && leb t 744) (leb t room) e in
-    let q = both (leb v 744000000 && leb 1 t) (leb t 744) (p .0) in
-    let r = both (leb v 744000000) (leb 1 t) (q .0) in
+    let p = both (leb v greatestVolumeRead && leb 1 t && leb t 744) (leb t room) e in
+    let q = both (leb v greatestVolumeRead && leb 1 t) (leb t 744) (p .0) in
+    let r = both (leb v greatestVolumeRead) (leb 1 t) (q .0) in
     record {
       volume = leb-true _ _ (r .0);
       some = leb-true _ _ (r .1);
@@ -191,33 +196,21 @@ month-fits {v} {t} {room} e =
       room = leb-true _ _ (p .1);
     }
 
-pub month-unfit : (v t room : ℕ) → 744000000 < v → monthFits v t room ≡ false
+pub month-unfit : (v t room : ℕ) → greatestVolumeRead < v → monthFits v t room ≡ false
 unfolding monthFits
-month-unfit v t room l = rw (lt-leb v 744000000 l)
+month-unfit v t room l = rw (lt-leb v greatestVolumeRead l)
 
 pub month-long : (v t room : ℕ) → 744 < t → monthFits v t room ≡ false
 unfolding monthFits
-month-long v t room l = rw (lt-leb t 744 l) (rw (and-false (leb v 744000000 && leb 1 t)))
-
--- a part of the store that passes the test lies in it
-pub record RowFits (words r t : ℕ) : Type 0 where
-  pub size : words ≡ 10416
-  pub row : r ≤ 13
-  pub hours : t ≤ 744
-
-pub row-fits : {size r t : ℕ} → rowFits size r t ≡ true → RowFits size r t
-unfolding rowFits
-row-fits {size} {r} {t} e =
-    let p = both (eqb size 10416 && leb r 13) (leb t 744) e in
-    let q = both (eqb size 10416) (leb r 13) (p .0) in
-    record { size = eqb-true _ _ (q .0); row = leb-true _ _ (q .1); hours = leb-true _ _ (p .1) }
+month-long v t room l = rw (lt-leb t 744 l) (rw (and-false (leb v greatestVolumeRead && leb 1 t)))
 
 -- what a function answers where it shared, and where it refused
 pub shared-yes : {fits r : Bool} {hours before after : List ℕ}
     → fits ≡ true → r ≡ true → after ≡ padded (length before) hours → Shared fits hours before after r
 shared-yes e f g = record { done = rw (e, f); left = rw e g }
 
-pub shared-and : {first fits r : Bool} {hours before after : List ℕ} → first ≡ true → Shared fits hours before after r → Shared (first && fits) hours before after r
+pub shared-and : {first fits r : Bool} {hours before after : List ℕ} → first ≡ true → Shared fits hours before after r
+    → Shared (first && fits) hours before after r
 shared-and e shared = rw e shared
 
 pub shared-no : {fits r : Bool} {hours before : List ℕ} → fits ≡ false → r ≡ false → Shared fits hours before before r

@@ -13,10 +13,12 @@ use Rattle.sharing.specs.Shares.{one, others, within, taken, share, spre
 use Rattle.sharing.specs.Underway.{started, stepped, Ready, Gains, Gained, Underway, Counts, Others}
 use Rattle.sharing.specs.declared.progress.Progress.{Progress}
 use native.Mathlib.Omega.{arith}
+use Rattle.units.specs.Volumes.{greatestVolumeRead, greatestMonthVolume}
 use Rattle.sharing.proofs.Rule.{taken-sum, taken-some, shares-tab, all-hours}
 use Rattle.sharing.proofs.Laws.{portion-none, portion-most, upTo-up}
 
-pub under-start : {v n s : ℕ} {w : ℕ → ℕ} {p : Progress} → p ≡ started v s → s ≡ sumTo w n → 0 < s → v ≤ 744000000 → s ≤ 2232000000 → Underway (p .volume) n w p 0
+pub under-start : {v n s : ℕ} {w : ℕ → ℕ} {p : Progress} → p ≡ started v s → s ≡ sumTo w n → 0 < s → v ≤ greatestVolumeRead
+    → s ≤ greatestMonthVolume → Underway (p .volume) n w p 0
 under-start {v} {n} {s} {w} e f some volume weights = rw e record {
   is = rw (f, portion-none);
   some = rw f at some;
@@ -27,15 +29,18 @@ under-start {v} {n} {s} {w} e f some volume weights = rw e record {
 -- a sharing by weights as they are taken, over 1 to 744 hours
 pub under-taken : {v n s k whole : ℕ} {p : Progress} (chosen : ℕ → Bool) (w : ℕ → ℕ)
     → p ≡ started v whole → whole ≡ cond (eqb s 0) (cond (eqb k 0) n k) s
-    → s ≡ sumTo (within chosen w) n → k ≡ sumTo (within chosen one) n → 1 ≤ n → n ≤ 744 → v ≤ 744000000 → s ≤ 2232000000
+    → s ≡ sumTo (within chosen w) n → k ≡ sumTo (within chosen one) n → 1 ≤ n → n ≤ 744 → v ≤ greatestVolumeRead
+    → s ≤ greatestMonthVolume
     → Underway (p .volume) n (taken n chosen w) p 0
 under-taken {n = n} {s = s} {k = k} chosen w e f g i some hours volume weights =
     let j : _ ≡ sumTo (taken n chosen w) n = f ∙ rw (g, i, taken-sum n chosen w) in
     under-start e j (rw j (taken-some n chosen w some)) volume
-    (rw f (cond-most (eqb s 0) (cond-most (eqb k 0) (omega arith) (omega (arith, sum-most (within chosen one) 1 n (λ h l. cond-most (chosen h) (omega arith) (omega arith))))) weights))
+    (rw f (cond-most (eqb s 0)
+    (cond-most (eqb k 0) (omega arith) (omega (arith, sum-most (within chosen one) 1 n (λ h l. cond-most (chosen h) (omega arith) (omega arith))))) weights))
 
 pub under-even : {v n k whole : ℕ} {p : Progress} (chosen : ℕ → Bool)
-    → p ≡ started v whole → whole ≡ cond (eqb k 0) (cond (eqb k 0) n k) k → k ≡ sumTo (within chosen one) n → k ≤ n → 1 ≤ n → n ≤ 744 → v ≤ 744000000
+    → p ≡ started v whole → whole ≡ cond (eqb k 0) (cond (eqb k 0) n k) k → k ≡ sumTo (within chosen one) n → k ≤ n → 1 ≤ n
+    → n ≤ 744 → v ≤ greatestVolumeRead
     → Underway (p .volume) n (taken n chosen one) p 0
 under-even chosen e f g most some hours volume = under-taken chosen one e f g g some hours volume (omega arith)
 
@@ -63,7 +68,8 @@ module _ {v n : ℕ} {w : ℕ → ℕ} {p : Progress} {h : ℕ} (u : Underway v 
     pub under-share : {g : ℕ} → Gained p q g → g ≡ share v n w h
     under-share g = g .is ∙ rw (under-more .is, u .is, add-one)
 
-    pub filled-share : {g : ℕ} {d l : List ℕ} → Gained p q g → h < n → n ≤ length d → Filled (share v n w) d l h → Filled (share v n w) d (set l h g) (h + 1)
+    pub filled-share : {g : ℕ} {d l : List ℕ} → Gained p q g → h < n → n ≤ length d → Filled (share v n w) d l h
+        → Filled (share v n w) d (set l h g) (h + 1)
     filled-share g lt le filled = filled-more filled (le-trans lt le) (under-share g)
 
 -- a turn of the loop over two sharings apart
@@ -83,6 +89,7 @@ unfolding spread
 shared {v} {n = n} m chosen w e filled f = rw (shares-tab v n chosen w) (filled-padded m (rw e at filled) f)
 
 pub shared-apart : {a b i j n : ℕ} {p q : Progress} {d l : List ℕ} (m : ℕ) (chosen : ℕ → Bool)
-    → p ≡ started a i → q ≡ started b j → Filled (apartAt (p .volume) (q .volume) chosen n) d l n → d ≡ zeros m → l ≡ padded m (sharesApart a b chosen n)
+    → p ≡ started a i → q ≡ started b j → Filled (apartAt (p .volume) (q .volume) chosen n) d l n → d ≡ zeros m
+    → l ≡ padded m (sharesApart a b chosen n)
 unfolding sharesApart
 shared-apart m chosen e f filled z = filled-padded m (rw (e, f) at filled) z

@@ -3,9 +3,10 @@ use Prim.Native.Nat.{ℕ, suc, _+_, _-_, _*_, _/_}
 use mathlib.Core.Path.{_≡_}
 use mathlib.Core.List.{List}
 use mathlib.Core.Bool.{Bool, true, false, cond, not, _&&_}
-use lib.ListN.{length, getD, take, drop}
+use lib.ListN.{length, getD}
 use lib.Dec.{eqb, ltb, leb}
 use Rattle.numbers.specs.Lists.{tab, sumTo, at, padded}
+use Rattle.units.specs.Volumes.{greatestVolumeRead, greatestMonthVolume}
 
 -- THE QUOTIENT and its rounding: what of v falls to weights of a out of s, in whole kWh
 unfoldable pub portion : ℕ → ℕ → ℕ → ℕ
@@ -73,14 +74,6 @@ pastAt past h = cond (ltb h (length past)) (at past h) (at past (h - 168))
 unfoldable pub stretched : List ℕ → ℕ → List ℕ
 stretched past t = tab t (pastAt past)
 
--- the first t hours of row r, as the part of the store that starts at 744 × its row
-abbrev pub rowPart : List ℕ → ℕ → ℕ → List ℕ
-rowPart store r t = take t (drop (744 * r) store)
-
--- a store of 14 rows of 744 words has that part
-unfoldable pub rowFits : ℕ → ℕ → ℕ → Bool
-rowFits size r t = eqb size 10416 && leb r 13 && leb t 744
-
 -- a selection of hours as a list
 abbrev pub chosenAt : List Bool → ℕ → Bool
 chosenAt chosen h = getD chosen h false
@@ -90,11 +83,11 @@ otherAt chosen = others (chosenAt chosen)
 
 -- THE LIMITS of the functions, so that every number fits: a volume of at most 744 × 1,000,000 kWh, 1 to 744 hours and a buffer that holds them
 unfoldable pub monthFits : ℕ → ℕ → ℕ → Bool
-monthFits v t room = leb v 744000000 && leb 1 t && leb t 744 && leb t room
+monthFits v t room = leb v greatestVolumeRead && leb 1 t && leb t 744 && leb t room
 
 -- and weights that sum to at most 744 × 3,000,000
 unfoldable pub weightsFit : ℕ → Bool
-weightsFit s = leb s 2232000000
+weightsFit s = leb s greatestMonthVolume
 
 -- what one place of a list gets, and 0 outside the list or where the numbers do not fit
 unfoldable pub shareIn : ℕ → List ℕ → ℕ → ℕ

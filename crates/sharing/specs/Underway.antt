@@ -5,6 +5,7 @@ use mathlib.Core.List.{List}
 use mathlib.Core.Bool.{Bool}
 use lib.ListN.{length}
 use Rattle.numbers.specs.Lists.{sumTo, at}
+use Rattle.units.specs.Volumes.{greatestVolumeRead, greatestMonthVolume}
 use Rattle.sharing.specs.Shares.{portion, one, within, upTo, pastAt, chosenAt, otherAt}
 use Rattle.sharing.specs.declared.progress.Progress.{Progress}
 
@@ -25,8 +26,8 @@ running v n w h = record { volume = v; whole = sumTo w n; passed = sumTo w h; do
 pub record QuotientFits (v a s : ℕ) : Type 0 where
   pub some : 0 < s
   pub part : a ≤ s
-  pub volume : v ≤ 744000000
-  pub weights : s ≤ 2232000000
+  pub volume : v ≤ greatestVolumeRead
+  pub weights : s ≤ greatestMonthVolume
 
 -- what a step needs, so that its numbers fit
 pub record Ready (p : Progress) (x : ℕ) : Type 0 where
@@ -36,19 +37,19 @@ pub record Ready (p : Progress) (x : ℕ) : Type 0 where
 -- p and q are a sharing before and after an hour, whose share fits 32 bits
 pub record Gains (p q : Progress) : Type 0 where
   pub up : p .done ≤ q .done
-  pub small : q .done ≤ 744000000
+  pub small : q .done ≤ greatestVolumeRead
 
 -- and r is that share
 pub record Gained (p q : Progress) (r : ℕ) : Type 0 where
   pub is : r ≡ q .done - p .done
-  pub small : r ≤ 744000000
+  pub small : r ≤ greatestVolumeRead
 
 -- p is the sharing of v over n hours by the weights w before hour h, and its numbers fit
 pub record Underway (v n : ℕ) (w : ℕ → ℕ) (p : Progress) (h : ℕ) : Type 0 where
   pub is : p ≡ running v n w h
   pub some : 0 < sumTo w n
-  pub volume : v ≤ 744000000
-  pub weights : sumTo w n ≤ 2232000000
+  pub volume : v ≤ greatestVolumeRead
+  pub weights : sumTo w n ≤ greatestMonthVolume
 
 -- k of the flags are set
 pub record Counts (chosen : List Bool) (k : ℕ) : Type 0 where
@@ -66,7 +67,7 @@ pub record Totals (past : List ℕ) (chosen : List Bool) (s k : ℕ) : Type 0 wh
 
 -- a volume, a number of hours and a buffer's length within the limits
 pub record MonthFits (v t size : ℕ) : Type 0 where
-  pub volume : v ≤ 744000000
+  pub volume : v ≤ greatestVolumeRead
   pub some : 1 ≤ t
   pub hours : t ≤ 744
   pub room : t ≤ size
@@ -75,6 +76,6 @@ pub record MonthFits (v t size : ℕ) : Type 0 where
 pub record Placed (v s : ℕ) (ws : List ℕ) (place : ℕ) : Type 0 where
   pub inside : place < length ws
   pub long : length ws ≤ 744
-  pub volume : v ≤ 744000000
+  pub volume : v ≤ greatestVolumeRead
   pub sum : s ≡ sumTo (at ws) (length ws)
-  pub weights : s ≤ 2232000000
+  pub weights : s ≤ greatestMonthVolume

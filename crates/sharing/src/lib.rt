@@ -5,11 +5,12 @@ ghost use mathlib.Core.Bool.{_&&_};
 ghost use Prim.Native.Nat.{_+_, _≤_};
 ghost use lib.ListN.{length};
 ghost use Rattle.numbers.specs.Lists.{sumTo, padded};
-ghost use Rattle.sharing.specs.Shares.{ones, within, sharesOver, sharesApart, pastAt, stretched, rowPart, rowFits, chosenAt, monthFits, weightsFit, Shared, shareIn};
+ghost use Rattle.units.specs.Volumes.{greatestMonthVolume};
+ghost use Rattle.sharing.specs.Shares.{ones, within, sharesOver, sharesApart, pastAt, stretched, chosenAt, monthFits, weightsFit, Shared, shareIn};
 ghost use Rattle.sharing.specs.Underway.{MonthFits};
 
 mod fill;
-pub mod place;
+mod place;
 mod progress;
 pub mod weights;
 
@@ -17,10 +18,12 @@ use fill::fill_apart;
 use fill::fill_by_past;
 use fill::fill_evenly;
 use numbers::clear;
+use numbers::sum_first;
 use numbers::wide;
 use place::at_place;
-use place::sum_first;
 use progress::start;
+use units::GREATEST_MONTH_VOLUME;
+use units::GREATEST_VOLUME_READ;
 use units::Kw;
 use units::Kwh;
 use weights::count;
@@ -31,15 +34,15 @@ use weights::whole_of;
 fn month_fits(v: u64, t: usize, room: usize) -> bool
     ensures { λ r. ⌜ r ≡ monthFits v t room ⌝ }
 {
-    (v <= 744000000) & (1 <= t) & (t <= 744) & (t <= room)
+    (v <= GREATEST_VOLUME_READ) & (1 <= t) & (t <= 744) & (t <= room)
 }
 
 // The same for the sum of two volumes.
 fn both_fit(a: u64, b: u64, t: usize, room: usize) -> bool
     ensures { λ r. ⌜ r ≡ monthFits (a + b) t room ⌝ }
 {
-    if a <= 744000000 {
-        if b <= 744000000 {
+    if a <= GREATEST_VOLUME_READ {
+        if b <= GREATEST_VOLUME_READ {
             return month_fits(a + b, t, room);
         }
     }
@@ -49,7 +52,7 @@ fn both_fit(a: u64, b: u64, t: usize, room: usize) -> bool
 // A sharing by the past whose numbers fit.
 fn by_past(v: u64, s: u64, past: &[u32], chosen: &[bool], hours: &mut [u32])
     requires { ⌜ MonthFits v (length (now chosen)) (length (now hours)) ⌝ }
-    requires { ⌜ (s ≡ sumTo (within (chosenAt (now chosen)) (pastAt (now past))) (length (now chosen))) × (s ≤ 2232000000) ⌝ }
+    requires { ⌜ (s ≡ sumTo (within (chosenAt (now chosen)) (pastAt (now past))) (length (now chosen))) × (s ≤ greatestMonthVolume) ⌝ }
     ensures { λ _. ⌜
         now (hours .exit)
         ≡ padded (length (now (hours .entry))) (sharesOver v (chosenAt (now (chosen .entry))) (stretched (now (past .entry)) (length (now (chosen .entry)))))
@@ -74,44 +77,11 @@ pub fn share_by_past(volume: Kwh, past: &[u32], chosen: &[bool], hours: &mut [u3
 {
     if month_fits(volume.0, chosen.len(), hours.len()) {
         let s = total(past, chosen);
-        if s <= 2232000000 {
+        if s <= GREATEST_MONTH_VOLUME {
             by_past(volume.0, s, past, chosen, hours);
             return true;
         }
         return false;
-    }
-    false
-}
-
-// Whether the store has the first t hours of a row.
-fn row_fits(size: usize, row: usize, t: usize) -> bool
-    ensures { λ r. ⌜ r ≡ rowFits size row t ⌝ }
-{
-    (size == 10416) & (row <= 13) & (t <= 744)
-}
-
-// The same where the past is the first t hours of a row of the store.
-pub fn share_by_row(
-    volume: Kwh,
-    store: &[u32],
-    row: usize,
-    t: usize,
-    chosen: &[bool],
-    hours: &mut [u32],
-) -> bool
-    ensures { λ r. ⌜
-        Shared
-        (rowFits (length (now (store .entry))) row t
-        && (monthFits (volume .0) (length (now (chosen .entry))) (length (now (hours .entry)))
-        && weightsFit (sumTo (within (chosenAt (now (chosen .entry))) (pastAt (rowPart (now (store .entry)) row t))) (length (now (chosen .entry))))))
-        (sharesOver (volume .0) (chosenAt (now (chosen .entry))) (stretched (rowPart (now (store .entry)) row t) (length (now (chosen .entry)))))
-        (now (hours .entry)) (now (hours .exit)) r
-        ⌝ }
-{
-    if row_fits(store.len(), row, t) {
-        let a = 744 * row;
-        let e = a + t;
-        return share_by_past(volume, &store[a..e], chosen, hours);
     }
     false
 }
@@ -191,7 +161,7 @@ fn share_at(v: u64, weights: &[u32], place: usize) -> u64
     let n = weights.len();
     if month_fits(v, n, n) {
         let s = sum_first(weights, n);
-        if s <= 2232000000 {
+        if s <= GREATEST_MONTH_VOLUME {
             if place < n {
                 return at_place(v, s, weights, place);
             }

@@ -8,23 +8,9 @@ ghost use Rattle.sharing.specs.Shares.{shares};
 ghost use Rattle.sharing.specs.Underway.{Placed};
 use super::progress::portion_of;
 use numbers::pick_wide;
-use numbers::word_at;
+use numbers::sum_first;
 
-// The sum of the first n words.
-pub fn sum_first(words: &[u32], n: usize) -> u64
-    requires { ⌜ n ≤ 744 ⌝ }
-    ensures { λ r. ⌜ r ≡ sumTo (at (now (words .entry))) n ⌝ }
-{
-    let mut s: u64 = 0;
-    let mut k = 0;
-    while k < n {
-        s += word_at(words, k);
-        k += 1;
-    }
-    s
-}
-
-// The same of the weights as they are taken over all places, where they sum to s.
+// The sum of the first n weights as they are taken over all places, where all of them sum to s.
 fn taken_first(s: u64, weights: &[u32], n: usize) -> u64
     requires { ⌜ n ≤ 744 ⌝ }
     ensures { λ r. ⌜ r ≡ cond (eqb s 0) n (sumTo (at (now (weights .entry))) n) ⌝ }

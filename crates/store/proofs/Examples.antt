@@ -7,7 +7,7 @@ use native.Mathlib.Omega.{arith}
 use lib.ListN.{length, take, drop, replicate, length-replicate}
 use lib.Seq.{take-at, drop-at}
 use Rattle.numbers.specs.Lists.{zeros, padded, noneAbove}
-use Rattle.sharing.specs.Shares.{rowFits}
+use Rattle.store.specs.Store.{rowFits}
 use Rattle.store.specs.Store.{asRow, putRow, writtenIn, storeFits}
 use Rattle.numbers.proofs.Laws.{at-zeros, none-above-from}
 

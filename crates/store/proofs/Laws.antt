@@ -13,9 +13,7 @@ use lib.ListN.{length, take, drop, length-append, length-take, length-drop, leng
 use lib.Seq.{ext-getD, getD-take, getD-drop, getD-append-add, take-at, drop-at, length-take-le, take-all}
 use Rattle.numbers.specs.Lists.{at, zeros, padded, noneAbove, Filled}
 use Rattle.numbers.proofs.Laws.{both, tab-at, none-above-at, none-above-from, at-zeros, at-more, filled-padded}
-use Rattle.sharing.specs.Shares.{rowPart, rowFits}
-use Rattle.sharing.proofs.Rule.{RowFits}
-use Rattle.store.specs.Store.{asRow, putRow, writtenIn, readFrom, emptyStore, storeFits}
+use Rattle.store.specs.Store.{rowPart, rowFits, asRow, putRow, writtenIn, readFrom, emptyStore, storeFits}
 
 -- a list copied over the front of zeros
 pub copied : {d l : List ℕ} (m : ℕ) (xs : List ℕ) → Filled (at xs) d l (length xs) → d ≡ zeros m → l ≡ padded m xs
@@ -32,21 +30,30 @@ unfolding padded
 length-row hours l = simp (length-append, length-replicate) (omega arith)
 
 -- parts of two lists that agree there are the same
-part-same : (a t : ℕ) (xs ys : List ℕ) → length xs ≡ length ys → ((k : ℕ) → a ≤ k → k < a + t → at xs k ≡ at ys k) → take t (drop a xs) ≡ take t (drop a ys)
+part-same : (a t : ℕ) (xs ys : List ℕ) → length xs ≡ length ys → ((k : ℕ) → a ≤ k → k < a + t → at xs k ≡ at ys k)
+    → take t (drop a xs) ≡ take t (drop a ys)
 part-same a t xs ys e f =
     ext-getD 0 (take t (drop a xs)) (take t (drop a ys)) (simp (length-take, length-drop, e))
     λ k l.
     let m : k < t = omega (arith, length-take t (drop a xs)) in
     rw (getD-take t (drop a xs) k 0 m, getD-take t (drop a ys) k 0 m, getD-drop a xs k 0, getD-drop a ys k 0) (f (a + k) (omega arith) (omega arith))
 
--- a store that has a row takes no hours into it
-pub row-there : (size r : ℕ) → eqb size 10416 && leb r 13 ≡ true → RowFits size r 0
-row-there size r e =
-    let p = both (eqb size 10416) (leb r 13) e in
-    record { size = eqb-true _ _ (p .0); row = leb-true _ _ (p .1); hours = omega arith }
+-- a part of the store that passes the test lies in it
+pub record RowFits (words r t : ℕ) : Type 0 where
+  pub size : words ≡ 10416
+  pub row : r ≤ 13
+  pub hours : t ≤ 744
 
--- and hours written into such a store make the row
-pub written-in : (r : ℕ) (hours store : List ℕ) → r ≤ 13 → length hours ≤ 744 → length store ≡ 10416 → writtenIn r hours store ≡ putRow r (asRow hours) store
+pub row-fits : {size r t : ℕ} → rowFits size r t ≡ true → RowFits size r t
+unfolding rowFits
+row-fits {size} {r} {t} e =
+    let p = both (eqb size 10416 && leb r 13) (leb t 744) e in
+    let q = both (eqb size 10416) (leb r 13) (p .0) in
+    record { size = eqb-true _ _ (q .0); row = leb-true _ _ (q .1); hours = leb-true _ _ (p .1) }
+
+-- hours written into such a store make the row
+pub written-in : (r : ℕ) (hours store : List ℕ) → r ≤ 13 → length hours ≤ 744 → length store ≡ 10416
+    → writtenIn r hours store ≡ putRow r (asRow hours) store
 unfolding writtenIn rowFits
 written-in r hours store row long size = rw (eq-eqb (length store) 10416 size, le-leb r 13 row, le-leb (length hours) 744 long)
 
@@ -57,17 +64,16 @@ pub record ReadsRow (words r t long : ℕ) : Type 0 where
   pub hours : t ≤ 744
   pub room : t ≤ long
 
-pub read-there : (size r t room : ℕ) → eqb size 10416 && leb r 13 && leb t 744 && leb t room ≡ true → ReadsRow size r t room
+pub read-there : (size r t room : ℕ) → rowFits size r t && leb t room ≡ true → ReadsRow size r t room
 read-there size r t room e =
-    let p = both (eqb size 10416 && leb r 13 && leb t 744) (leb t room) e in
-    let q = both (eqb size 10416 && leb r 13) (leb t 744) (p .0) in
-    let s = both (eqb size 10416) (leb r 13) (q .0) in
-    record { size = eqb-true _ _ (s .0); row = leb-true _ _ (s .1); hours = leb-true _ _ (q .1); room = leb-true _ _ (p .1) }
+    let p = both (rowFits size r t) (leb t room) e in
+    let fits = row-fits (p .0) in
+    record { size = fits .size; row = fits .row; hours = fits .hours; room = leb-true _ _ (p .1) }
 
 -- the part of the store from the row's start, copied over a buffer
-pub row-read : (store : List ℕ) (r t : ℕ) (buffer after : List ℕ) → eqb (length store) 10416 && leb r 13 && leb t 744 && leb t (length buffer) ≡ true
+pub row-read : (store : List ℕ) (r t : ℕ) (buffer after : List ℕ) → rowFits (length store) r t && leb t (length buffer) ≡ true
     → after ≡ padded (length buffer) (take (744 * r + t - 744 * r) (drop (744 * r) store)) → after ≡ readFrom store r t buffer
-unfolding readFrom rowFits
+unfolding readFrom
 row-read store r t buffer after there e = rw (there, e, add-sub-cancel-left (744 * r) t)
 
 -- and of a row and a buffer that are there
@@ -148,7 +154,8 @@ module _ (r : ℕ) (xs store : List ℕ) (size : length store ≡ 10416) (row : 
       (λ k l m. ⊎-elim (λ o. at-put-before k (omega arith)) (λ o. at-put-after k (omega arith)) other)
 
 -- a store fits where both of its parts do, the first of 8,928 words and the second of 1,488
-pub fits-parts : (store : List ℕ) → length store ≡ 10416 → storeFits store ≡ (noneAbove 3000000 (take 8928 store) && noneAbove 1000000 (take 1488 (drop 8928 store)))
+pub fits-parts : (store : List ℕ) → length store ≡ 10416
+    → storeFits store ≡ (noneAbove 3000000 (take 8928 store) && noneAbove 1000000 (take 1488 (drop 8928 store)))
 unfolding storeFits
 fits-parts store size = rw (take-all 1488 (drop 8928 store) (omega (arith, length-drop 8928 store)))
 
@@ -169,7 +176,8 @@ module _ (store : List ℕ) (fits : storeFits store ≡ true) where
       ]
 
 -- and one that has none fits
-pub fits-from : (store : List ℕ) → ((k : ℕ) → k < 8928 → at store k ≤ 3000000) → ((k : ℕ) → 8928 ≤ k → at store k ≤ 1000000) → storeFits store ≡ true
+pub fits-from : (store : List ℕ) → ((k : ℕ) → k < 8928 → at store k ≤ 3000000) → ((k : ℕ) → 8928 ≤ k → at store k ≤ 1000000)
+    → storeFits store ≡ true
 unfolding storeFits
 fits-from store past month = rw (
   none-above-from 3000000 (take 8928 store) (λ k l. let m : k < 8928 = omega (arith, length-take 8928 store) in rw (getD-take 8928 store k 0 m) (past k m)),

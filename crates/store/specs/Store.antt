@@ -2,10 +2,17 @@
 use Prim.Native.Nat.{ℕ, _*_}
 use mathlib.Core.Bool.{Bool, cond, _&&_}
 use mathlib.Core.List.{List, [], _++_}
-use lib.Dec.{leb}
+use lib.Dec.{eqb, leb}
 use lib.ListN.{length, take, drop}
 use Rattle.numbers.specs.Lists.{zeros, padded, noneAbove}
-use Rattle.sharing.specs.Shares.{rowPart, rowFits}
+
+-- the first t hours of row r, as the part of the store that starts at 744 × its row
+abbrev pub rowPart : List ℕ → ℕ → ℕ → List ℕ
+rowPart store r t = take t (drop (744 * r) store)
+
+-- a store of 14 rows of 744 words has that part
+unfoldable pub rowFits : ℕ → ℕ → ℕ → Bool
+rowFits size r t = eqb size 10416 && leb r 13 && leb t 744
 
 -- hours as a whole row: 0 from their end on
 abbrev pub asRow : List ℕ → List ℕ

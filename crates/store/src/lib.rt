@@ -7,9 +7,16 @@ ghost use Prim.Native.Nat.{_≤_};
 ghost use lib.Dec.{eqb};
 ghost use lib.ListN.{length};
 ghost use Rattle.numbers.specs.Lists.{at, padded, Filled};
-ghost use Rattle.store.specs.Store.{writtenIn, readFrom, emptyStore, storeFits};
+ghost use Rattle.store.specs.Store.{rowFits, writtenIn, readFrom, emptyStore, storeFits};
 use numbers::clear;
 use numbers::none_above;
+
+// Whether the store has the first t hours of a row.
+pub fn row_fits(size: usize, row: usize, t: usize) -> bool
+    ensures { λ r. ⌜ r ≡ rowFits size row t ⌝ }
+{
+    (size == 10416) & (row <= 13) & (t <= 744)
+}
 
 // The words of a list into the front of a row.
 fn copy_words(row: &mut [u32], hours: &[u32])
@@ -37,7 +44,7 @@ fn copy_row(row: &mut [u32], hours: &[u32])
 pub fn write_row(store: &mut [u32], row: usize, hours: &[u32])
     ensures { λ _. ⌜ now (store .exit) ≡ writtenIn row (now (hours .entry)) (now (store .entry)) ⌝ }
 {
-    if (store.len() == 10416) & (row <= 13) & (hours.len() <= 744) {
+    if row_fits(store.len(), row, hours.len()) {
         let start = 744 * row;
         let end = start + 744;
         copy_row(&mut store[start..end], hours);
@@ -49,7 +56,7 @@ pub fn write_row(store: &mut [u32], row: usize, hours: &[u32])
 pub fn read_row(store: &[u32], row: usize, t: usize, hours: &mut [u32])
     ensures { λ _. ⌜ now (hours .exit) ≡ readFrom (now (store .entry)) row t (now (hours .entry)) ⌝ }
 {
-    if (store.len() == 10416) & (row <= 13) & (t <= 744) & (t <= hours.len()) {
+    if row_fits(store.len(), row, t) & (t <= hours.len()) {
         let from = 744 * row;
         let to = from + t;
         copy_row(hours, &store[from..to]);
@@ -60,7 +67,7 @@ pub fn read_row(store: &[u32], row: usize, t: usize, hours: &mut [u32])
 pub fn clear_row(store: &mut [u32], row: usize)
     ensures { λ _. ⌜ now (store .exit) ≡ writtenIn row [] (now (store .entry)) ⌝ }
 {
-    if (store.len() == 10416) & (row <= 13) {
+    if row_fits(store.len(), row, 0) {
         let from = 744 * row;
         let to = from + 744;
         clear(&mut store[from..to]);

@@ -7,16 +7,18 @@ use native.Mathlib.Omega.{arith}
 use borrow.Author.Tests.{leb-true, le-leb, eqb-true}
 use lib.Dec.{leb, ltb, eqb}
 use Rattle.numbers.specs.Lists.{allTo, at}
-use Rattle.numbers.proofs.Laws.{by-cases, both}
+use Rattle.numbers.proofs.Laws.{by-cases, both, or-true}
 use Rattle.calendar.specs.declared.Date.{Date}
 use Rattle.calendar.specs.Calendar.{isOpen, monthNumber, isMonthNumber}
+use Rattle.units.specs.Volumes.{greatestTotal}
 use Rattle.contract.specs.declared.Contract.{Contract}
 use Rattle.record.specs.declared.Service.{Service}
 use Rattle.record.specs.declared.Past.{Past}
 use Rattle.record.specs.declared.Readings.{Readings}
 use Rattle.record.specs.declared.Record.{Record}
 use Rattle.record.specs.Record.{isSet, notGiven, givenAs, noReadings}
-use Rattle.validity.specs.Valid.{allFrom, allOf, contractTests, serviceTests, yearFits, latestInRow, pastTests, readingTests, readingsTests, volumeLimit, recordTests, valid}
+use Rattle.validity.specs.Valid.{allFrom, allOf, contractTests, serviceTests, yearFits, latestInRow, pastTests, readingTests, readingsTests}
+use Rattle.validity.specs.Valid.{volumeLimit, recordTests, valid}
 
 -- every test of a list, one by one
 abbrev pub EachTest : List Bool → Type 0
@@ -49,7 +51,7 @@ pub record Valid (r : Record) : Type 0 where
   pub service : allOf (serviceTests (r .service) (r .date)) ≡ true
   pub past : allOf (pastTests (r .past) (r .date)) ≡ true
   pub readings : allOf (readingsTests (r .readings) (r .contract) (volumeLimit (r .date))) ≡ true
-  pub total : leb (r .total .0) 30000000000000 ≡ true
+  pub total : leb (r .total .0) greatestTotal ≡ true
 
 pub valid-parts : (r : Record) → valid r ≡ true → Valid r
 unfolding valid
@@ -90,8 +92,10 @@ service-parts s d h =
 
 pub service-from : (s : Service) (d : Date) → ServiceFits s d → allOf (serviceTests s d) ≡ true
 service-from s d f =
-    all (serviceTests s d)
-    (le-leb (s .run) 12000 (f .run), (le-leb (s .serving) 1 (f .serving), (le-leb (s .denials) 2 (f .denials), (f .month, (le-leb (s .fault) (monthNumber d) (f .before), tt)))))
+    all (serviceTests s d) (
+      le-leb (s .run) 12000 (f .run),
+      (le-leb (s .serving) 1 (f .serving), (le-leb (s .denials) 2 (f .denials), (f .month, (le-leb (s .fault) (monthNumber d) (f .before), tt)))),
+    )
 
 -- what the calls need of a record that passes
 pub denials-most : (r : Record) → valid r ≡ true → r .service .denials ≤ 2
@@ -134,10 +138,6 @@ readings-parts g c limit h =
 
 pub readings-from : (g : Readings) (c : Contract) (limit : ℕ) → ReadingsFit g c limit → allOf (readingsTests g c limit) ≡ true
 readings-from g c limit f = all (readingsTests g c limit) (f .billing, (f .control, (f .first, (f .second, tt))))
-
-or-true : (a : Bool) → a || true ≡ true
-or-true true = refl
-or-true false = refl
 
 -- a reading that is not given fits any meter
 pub missing-fits : (has whole : Bool) (limit : ℕ) → allOf (readingTests notGiven has whole limit) ≡ true

@@ -6,6 +6,7 @@ use lib.Dec.{leb, ltb, eqb}
 use Rattle.numbers.specs.Lists.{allTo, at}
 use Rattle.calendar.specs.declared.Date.{Date}
 use Rattle.calendar.specs.Calendar.{isOpen, openHours, monthNumber, isMonthNumber, yearOf, placeOf}
+use Rattle.units.specs.Volumes.{greatestTotal}
 use Rattle.power.specs.declared.Cable.{Cable}
 use Rattle.power.specs.Power.{cableFits}
 use Rattle.contract.specs.declared.Contract.{Contract}
@@ -121,7 +122,7 @@ recordTests r =
     ∷ allOf (pastTests (r .past) (r .date))
     ∷ allOf (readingsTests (r .readings) (r .contract) (volumeLimit (r .date)))
     -- "running total, at most 30,000,000,000,000"
-    ∷ leb (r .total .0) 30000000000000
+    ∷ leb (r .total .0) greatestTotal
     ∷ []
 
 -- NUMBER 2 does not apply

@@ -2,7 +2,8 @@
 ghost use mathlib.Core.Path.{_≡_};
 ghost use Prim.Native.Nat.{_+_, _<_};
 ghost use Rattle.numbers.specs.Lists.{allTo};
-ghost use Rattle.validity.specs.Valid.{allOf, isNoCable, restIsZero, contractTests, serviceTests, yearBefore, yearFits, latestInRow, pastTests, readingTests, readingsTests, volumeLimit, valid};
+ghost use Rattle.validity.specs.Valid.{allOf, isNoCable, restIsZero, contractTests, serviceTests, yearBefore, yearFits, latestInRow};
+ghost use Rattle.validity.specs.Valid.{pastTests, readingTests, readingsTests, volumeLimit, valid};
 use calendar::Date;
 use calendar::is_month_number;
 use calendar::is_open;
@@ -19,6 +20,7 @@ use record::Reading;
 use record::Readings;
 use record::Record;
 use record::Service;
+use units::GREATEST_TOTAL;
 
 // T × 1,000,000, the greatest volume of a reading in the open month.
 pub fn volume_limit(d: Date) -> u64
@@ -139,5 +141,5 @@ pub fn is_valid(r: Record) -> bool
         & service_fits(r.service, r.date)
         & past_fits(r.past, r.date)
         & readings_fit(r.readings, r.contract, volume_limit(r.date))
-        & (r.total.0 <= 30000000000000)
+        & (r.total.0 <= GREATEST_TOTAL)
 }

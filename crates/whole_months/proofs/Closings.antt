@@ -6,7 +6,7 @@ use lib.ListN.{set, replicate}
 use Rattle.numbers.specs.Lists.{zeros}
 use Rattle.rules.specs.Calls.{closing}
 use Rattle.model.specs.Refusals.{ownRefusal}
-use Rattle.model.proofs.Examples.{judging, point, closed}
+use Rattle.model.proofs.Examples.{refusalDefinitions, point, closed}
 
 -- the marks of February 2023, T 672
 abbrev plain : List ℕ
@@ -18,12 +18,12 @@ settlement :
     × (closed (set plain 0 1) 743 ≡ 43) × (closed (set (set plain 0 2) 23 2) 744 ≡ 43)
     × (closed (set (set plain 0 3) 24 3) 744 ≡ 0) × (closed plain 743 ≡ 44)
     × (closed plain 745 ≡ 44)
-unfolding judging
+unfolding refusalDefinitions
 settlement = (refl, refl, refl, refl, refl, refl, refl, refl)
 
 -- 45, of a store of one word and of none
 store-limit :
     (ownRefusal (point 1 2) (3000001 ∷ []) (closing plain (zeros 744)) ≡ 45) × (ownRefusal (point 1 2) (3000000 ∷ []) (closing plain (zeros 744)) ≡ 0)
     × (ownRefusal (point 1 2) [] (closing plain (zeros 744)) ≡ 0)
-unfolding judging
+unfolding refusalDefinitions
 store-limit = (refl, refl, refl)

@@ -8,7 +8,7 @@ use Rattle.record.specs.Record.{kwh, givenAs, noReadings, freshService, withSer
 use Rattle.rules.specs.Rules.{missing, hourly, whole, noPastHours, pastHours}
 use Rattle.model.specs.Model.{state}
 use Rattle.reasons.specs.Reasons.{comparedIn, reasonsOf}
-use Rattle.reasons.proofs.Examples.{on, contract, january, working}
+use Rattle.reasons.proofs.Examples.{on, contract, january, reasonDefinitions}
 
 -- one peak and capacity hour, hour 10; and a past of 5 kWh there and 15 in hour 20
 abbrev marked : List ℕ
@@ -20,10 +20,12 @@ row = set (set (zeros 744) 10 5) 20 15
 -- V 16 by the past gives hour 10 a quarter; C' is 0 with R 2, without peak hours, without a past, with N above K, and with any other reading
 sums :
     (comparedIn (january marked 3 missing (whole 20) 4 (pastHours row)) ≡ 4) × (comparedIn (january marked 2 missing (whole 20) 4 (pastHours row)) ≡ 0)
-    × (comparedIn (january (set (zeros 744) 10 2) 3 missing (whole 20) 4 (pastHours row)) ≡ 0) × (comparedIn (january marked 3 missing (whole 20) 4 noPastHours) ≡ 0)
-    × (comparedIn (january marked 3 missing (whole 20) 24 (pastHours row)) ≡ 0) × (comparedIn (january marked 3 (whole 20) (whole 20) 4 (pastHours row)) ≡ 0)
+    × (comparedIn (january (set (zeros 744) 10 2) 3 missing (whole 20) 4 (pastHours row)) ≡ 0)
+    × (comparedIn (january marked 3 missing (whole 20) 4 noPastHours) ≡ 0)
+    × (comparedIn (january marked 3 missing (whole 20) 24 (pastHours row)) ≡ 0)
+    × (comparedIn (january marked 3 (whole 20) (whole 20) 4 (pastHours row)) ≡ 0)
     × (comparedIn (january marked 3 missing (hourly row) 4 (pastHours row)) ≡ 0) × (comparedIn (january marked 3 missing missing 4 (pastHours row)) ≡ 0)
-unfolding working
+unfolding reasonDefinitions
 sums = (refl, refl, refl, refl, refl, refl, refl, refl)
 
 -- out of service with two denials, K 20, N 4, and January 2022 in row 0
@@ -49,5 +51,5 @@ whole-answer :
       past = on 2022 1;
       compared = kwh 4;
     }
-unfolding working
+unfolding reasonDefinitions
 whole-answer = refl

@@ -4,4 +4,5 @@ use Rattle.events.proofs.denial_refusal.Statement.{statement}
 use Rattle.events.proofs.denial_refusal.Tie as tie
 
 pub denial-refusal-spec : {M : Type 1} → statement M
-denial-refusal-spec = tie.close (tie.spec (λ c κs. search needs) (λ c κs. search needs) (λ c. rw (c .refuse-anyone .ensures, c .before .refuse-if .ensures)))
+denial-refusal-spec =
+    tie.close (tie.spec (λ c κs. search needs) (λ c κs. search needs) (λ c. rw (c .refuse-anyone .ensures, c .before .refuse-if .ensures)))

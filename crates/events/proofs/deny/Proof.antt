@@ -23,13 +23,17 @@ deny-spec =
     (λ c κs. search needs)
     (λ c. let a = c .before .before .before .before .args in
     refused (state (a .r) (now (a .store))) denial (c .before .before .denial-refusal .ensures) (c .before .if1 .taken) (c .answer-with .ensures))
-    (λ c. omega (arith, denials-few (length (now (c .before .before .before .args .store))) (c .before .before .before .args .r) _ (c .before .denial-refusal .ensures) (c .if1 .left)))
+    (λ c.
+    let back3 = c .before .before .before in
+    omega (arith, denials-few (length (now (back3 .args .store))) (back3 .args .r) _ (c .before .denial-refusal .ensures) (c .if1 .left)))
     (λ c κs. search needs)
     (λ c. search needs)
     (λ c. let p = c .before .before .before .before .before .before in
     let a = p .before .before .before .args in
     let t = eq-eqb (a .r .service .denials) 1 (c .before .before .before .before .if2 .taken) in
-    done (state (a .r) (now (a .store))) denial (p .before .denial-refusal .ensures) (p .if1 .left) refl refl (rw t (c .before .before .discard .ensures .0)) (rw t (c .before .before .discard .ensures .1 ∙ row-cleared _ _ _ (p .before .denial-refusal .ensures) (p .if1 .left))))
+    done (state (a .r) (now (a .store))) denial (p .before .denial-refusal .ensures) (p .if1 .left) refl refl
+    (rw t (c .before .before .discard .ensures .0))
+    (rw t (c .before .before .discard .ensures .1 ∙ row-cleared _ _ _ (p .before .denial-refusal .ensures) (p .if1 .left))))
     (λ c κs. search needs)
     (λ c. let p = c .before .before .before in
     let a = p .before .before .before .args in

@@ -12,4 +12,6 @@ discard-spec =
     (λ c κs. search needs)
     (λ c κs. search needs)
     (λ c. search needs)
-    (λ c. (rw (c .before .with-billing .ensures, c .before .before .not-given .ensures) at (c .answer-with .ensures), rw (c .before .before .before .before .before .clear-row .ensures))))
+    (λ c.
+    let back5 = c .before .before .before .before .before in
+    (rw (c .before .with-billing .ensures, c .before .before .not-given .ensures) at (c .answer-with .ensures), rw (back5 .clear-row .ensures))))

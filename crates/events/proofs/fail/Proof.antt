@@ -21,9 +21,13 @@ fail-spec =
     (λ c κs. search needs)
     (λ c. let a = c .before .before .before .before .args in
     refused (state (a .r) (now (a .store))) (failure _) (c .before .before .failure-refusal .ensures) (c .before .if1 .taken) (c .answer-with .ensures))
-    (λ c κs. fault-small (length (now (c .before .before .before .args .store))) (c .before .before .before .args .r) _ (c .before .failure-refusal .ensures) (c .if1 .left))
+    (λ c κs.
+    let back3 = c .before .before .before in
+    fault-small (length (now (back3 .args .store))) (back3 .args .r) _ (c .before .failure-refusal .ensures) (c .if1 .left))
     (λ c κs. search needs)
     (λ c. search needs)
     (λ c. let p = c .before .before .before .before .before in
     let a = p .before .before .before .args in
-    done (state (a .r) (now (a .store))) (failure _) (p .before .failure-refusal .ensures) (p .if1 .left) refl refl (rw (c .before .before .before .before .after-failure .ensures) at (c .before .before .discard .ensures .0)) (c .before .before .discard .ensures .1 ∙ row-cleared _ _ _ (p .before .failure-refusal .ensures) (p .if1 .left))))
+    done (state (a .r) (now (a .store))) (failure _) (p .before .failure-refusal .ensures) (p .if1 .left) refl refl
+    (rw (c .before .before .before .before .after-failure .ensures) at (c .before .before .discard .ensures .0))
+    (c .before .before .discard .ensures .1 ∙ row-cleared _ _ _ (p .before .failure-refusal .ensures) (p .if1 .left))))

@@ -12,7 +12,8 @@ use Rattle.examples.proofs.table.Statement.{statement}
 use Rattle.examples.proofs.table.Tie as tie
 
 examples : Examples
-unfolding halfUp leapYear isMonth monthDays monthNumber portion taken spread sharesOver apartAt sharesApart formula sharedPower peakCount capacityOf peakPart peakRule
+unfolding halfUp leapYear isMonth monthDays monthNumber portion taken spread sharesOver apartAt sharesApart formula sharedPower peakCount capacityOf
+    peakPart peakRule
 examples = record {
   a = (refl, refl, refl, refl);
   b = refl;

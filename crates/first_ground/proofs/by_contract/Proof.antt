@@ -13,9 +13,24 @@ by-contract-spec =
     tie.close
     (tie.spec
     (λ c κs. search needs)
-    (λ c κs. let k = known _ _ _ _ (c .before .before .before .before .before .before .before .pre) in rw (c .before .before .before .open-hours .ensures) (k .cable (c .before .if1 .taken), k .buffers .some, k .buffers .few, k .buffers .room))
+    (λ c κs.
+    let back3 = c .before .before .before in let back7 = back3 .before .before .before .before in
+    let k = known _ _ _ _ (back7 .pre) in
+    rw (back3 .open-hours .ensures) (k .cable (c .before .if1 .taken), k .buffers .some, k .buffers .few, k .buffers .room))
     (λ c. search needs)
-    (λ c. let a = c .before .before .before .before .before .before .before .before .before .before .args in nine-gives (inputs (state (a .r) (now (a .store))) (now (a .marks))) (c .before .before .before .before .if1 .taken) (c .before .before .before .before .before .before .open-hours .ensures) (c .before .before .ground-nine .ensures))
-    (λ c κs. let k = known _ _ _ _ (c .before .before .before .before .before .before .before .pre) in rw (c .before .before .before .open-hours .ensures) (k .power, k .buffers .some, k .buffers .few, k .buffers .room))
+    (λ c.
+    let back4 = c .before .before .before .before in let back6 = back4 .before .before in
+    let back10 = back6 .before .before .before .before in
+    let a = back10 .args in
+    nine-gives (inputs (state (a .r) (now (a .store))) (now (a .marks))) (back4 .if1 .taken) (back6 .open-hours .ensures)
+    (c .before .before .ground-nine .ensures))
+    (λ c κs.
+    let back3 = c .before .before .before in let back7 = back3 .before .before .before .before in
+    let k = known _ _ _ _ (back7 .pre) in rw (back3 .open-hours .ensures) (k .power, k .buffers .some, k .buffers .few, k .buffers .room))
     (λ c. search needs)
-    (λ c. let a = c .before .before .before .before .before .before .before .before .before .before .args in eight-gives (inputs (state (a .r) (now (a .store))) (now (a .marks))) (c .before .before .before .before .if1 .left) (c .before .before .before .before .before .before .open-hours .ensures) (c .before .before .ground-eight .ensures)))
+    (λ c.
+    let back4 = c .before .before .before .before in let back6 = back4 .before .before in
+    let back10 = back6 .before .before .before .before in
+    let a = back10 .args in
+    eight-gives (inputs (state (a .r) (now (a .store))) (now (a .marks))) (back4 .if1 .left) (back6 .open-hours .ensures)
+    (c .before .before .ground-eight .ensures)))

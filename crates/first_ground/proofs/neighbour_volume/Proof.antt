@@ -11,4 +11,6 @@ neighbour-volume-spec =
     (tie.spec
     (λ c κs. search needs)
     (λ c κs. search needs)
-    (λ c. let g = c .before .before .before .before .args .g in rw (c .before .before .pick-wide .ensures) at (c .pick-wide2 .ensures) ∙ neighbour-is (g .first) (g .second)))
+    (λ c.
+    let back4 = c .before .before .before .before in
+    let g = back4 .args .g in rw (c .before .before .pick-wide .ensures) at (c .pick-wide2 .ensures) ∙ neighbour-is (g .first) (g .second)))

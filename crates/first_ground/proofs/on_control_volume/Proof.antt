@@ -19,20 +19,87 @@ on-control-volume-spec =
     (λ c κs. search needs)
     (λ c κs. known _ _ _ _ (c .before .before .before .before .before .pre .0) .cable)
     (λ c κs. known _ _ _ _ (c .before .before .before .before .before .before .pre .0) .sound)
-    (λ c κs. let k = known _ _ _ _ (c .before .before .before .before .before .before .before .before .before .before .pre .0) in (omega (arith, c .before .before .before .before .before .less .ensures, k .control), marks-some k, marks-few k, k .buffers .room))
+    (λ c κs.
+    let back5 = c .before .before .before .before .before in let back10 = back5 .before .before .before .before .before in
+    let k = known _ _ _ _ (back10 .pre .0) in (omega (arith, back5 .less .ensures, k .control), marks-some k, marks-few k, k .buffers .room))
     (λ c. search needs)
-    (λ c. let a = c .before .before .before .before .before .before .before .before .before .before .before .before .before .args in let i = inputs (state (a .r) (now (a .store))) (now (a .marks)) in five-gives i _ (inputs-no-past (a .r) (now (a .store)) (now (a .marks)) _ (c .before .before .before .before .before .before .find-past .ensures) (not-true _ (c .before .before .before .before .if1 .taken))) (rw (c .before .before .before .before .before .before .before .before .less .ensures, c .before .before .before .before .before .before .before .before .before .neighbour-volume .ensures, c .before .before .before .before .before .before .before .point-power .ensures) at (c .before .before .ground-five .ensures)))
+    (λ c.
+    let back4 = c .before .before .before .before in let back6 = back4 .before .before in let back7 = back6 .before in
+    let back8 = back7 .before in let back9 = back8 .before in let back13 = back9 .before .before .before .before in
+    let a = back13 .args in
+    let i = inputs (state (a .r) (now (a .store))) (now (a .marks)) in
+    five-gives i _ (inputs-no-past (a .r) (now (a .store)) (now (a .marks)) _ (back6 .find-past .ensures) (not-true _ (back4 .if1 .taken)))
+    (rw (back8 .less .ensures, back9 .neighbour-volume .ensures, back7 .point-power .ensures) at (c .before .before .ground-five .ensures)))
     (λ c κs. search needs)
     (λ c. search needs)
     (λ c κs. known _ _ _ _ (c .before .before .before .before .before .before .before .before .before .before .pre .0) .run)
-    (λ c κs. let k = known _ _ _ _ (c .before .before .before .before .before .before .before .before .before .before .before .before .before .pre .0) in rw (c .before .before .before .open-hours .ensures) ((k .buffers, c .before .before .before .before .before .before .find-past .ensures .fits), (k .fits, omega (arith, c .before .before .before .before .before .before .before .before .less .ensures, k .control))))
+    (λ c κs.
+    let back3 = c .before .before .before in let back6 = back3 .before .before .before in let back8 = back6 .before .before in
+    let back13 = back8 .before .before .before .before .before in
+    let k = known _ _ _ _ (back13 .pre .0) in
+    rw (back3 .open-hours .ensures) ((k .buffers, back6 .find-past .ensures .fits), (k .fits, omega (arith, back8 .less .ensures, k .control))))
     (λ c. search needs)
-    (λ c. let a = c .before .before .before .before .before .before .before .before .before .before .before .before .before .before .before .before .args in let i = inputs (state (a .r) (now (a .store))) (now (a .marks)) in four-gives i _ _ (inputs-past (a .r) (now (a .store)) (now (a .marks)) _ (c .before .before .before .before .before .before .before .before .before .find-past .ensures) (not-false _ (c .before .before .before .before .before .before .before .if1 .left))) (rw (c .before .before .before .before .before .counted .ensures) at (c .before .before .before .before .if2 .taken)) (c .before .before .before .before .before .before .open-hours .ensures) (rw (c .before .before .before .before .before .before .before .before .before .before .before .less .ensures, c .before .before .before .before .before .before .before .before .before .before .before .before .neighbour-volume .ensures) at (c .before .before .ground-four .ensures)))
-    (λ c κs. let k = known _ _ _ _ (c .before .before .before .before .before .before .before .before .before .before .before .before .before .pre .0) in rw (c .before .before .before .open-hours .ensures) ((k .buffers, c .before .before .before .before .before .before .find-past .ensures .fits), (k .fits, omega (arith, c .before .before .before .before .before .before .before .before .less .ensures, k .control))))
+    (λ c.
+    let back4 = c .before .before .before .before in let back5 = back4 .before in let back6 = back5 .before in let back7 = back6 .before in
+    let back9 = back7 .before .before in let back11 = back9 .before .before in let back12 = back11 .before in
+    let back16 = back12 .before .before .before .before in
+    let a = back16 .args in
+    let i = inputs (state (a .r) (now (a .store))) (now (a .marks)) in
+    four-gives i _ _ (inputs-past (a .r) (now (a .store)) (now (a .marks)) _ (back9 .find-past .ensures) (not-false _ (back7 .if1 .left)))
+    (rw (back5 .counted .ensures) at (back4 .if2 .taken)) (back6 .open-hours .ensures)
+    (rw (back11 .less .ensures, back12 .neighbour-volume .ensures) at (c .before .before .ground-four .ensures)))
+    (λ c κs.
+    let back3 = c .before .before .before in let back6 = back3 .before .before .before in let back8 = back6 .before .before in
+    let back13 = back8 .before .before .before .before .before in
+    let k = known _ _ _ _ (back13 .pre .0) in
+    rw (back3 .open-hours .ensures) ((k .buffers, back6 .find-past .ensures .fits), (k .fits, omega (arith, back8 .less .ensures, k .control))))
     (λ c κs. search needs)
-    (λ c κs. let k = known _ _ _ _ (c .before .before .before .before .before .before .before .before .before .before .before .before .before .before .before .before .before .before .pre .0) in let e = c .before .before .before .before .before .before .before .before .before .before .before .before .before .before .before .before .before .before .pre .1 in rw (e) (omega (arith, c .before .before .before .before .before .before .before .before .before .before .before .before .before .less .ensures, k .control), peaks-few k, days-few k, six-sum _ _ _ _ _ (rw (c .before .before .before .before .before .before .before .before .open-hours .ensures) (k .buffers .some)) (rw (c .before .before .before .before .before .before .before .before .open-hours .ensures) (k .buffers .few)) (omega (arith, c .before .before .before .before .before .before .before .before .before .before .before .before .before .less .ensures, k .control)) (c .capacity-sum .ensures) (c .before .before .before .before .ground-six .ensures .hours)))
+    (λ c κs.
+    let back4 = c .before .before .before .before in let back8 = back4 .before .before .before .before in
+    let back13 = back8 .before .before .before .before .before in let back18 = back13 .before .before .before .before .before in
+    let k = known _ _ _ _ (back18 .pre .0) in
+    let e = back18 .pre .1 in
+    rw (e) (
+      omega (arith, back13 .less .ensures, k .control),
+      peaks-few k,
+      days-few k,
+      six-sum _ _ _ _ _ (rw (back8 .open-hours .ensures) (k .buffers .some)) (rw (back8 .open-hours .ensures) (k .buffers .few))
+          (omega (arith, back13 .less .ensures, k .control)) (c .capacity-sum .ensures) (back4 .ground-six .ensures .hours),
+    ))
     (λ c. search needs)
-    (λ c. let a = c .before .before .before .before .before .before .before .before .before .before .before .before .before .before .before .before .before .before .before .before .args in let i = inputs (state (a .r) (now (a .store))) (now (a .marks)) in let k = known _ _ _ _ (c .before .before .before .before .before .before .before .before .before .before .before .before .before .before .before .before .before .before .before .before .pre .0) in let g = rw (c .before .before .before .before .before .before .before .before .before .before .open-hours .ensures, c .before .before .before .before .before .before .before .before .before .before .before .before .before .before .before .less .ensures, c .before .before .before .before .before .before .before .before .before .before .before .before .before .before .before .before .neighbour-volume .ensures) at (c .before .before .before .before .before .before .ground-six .ensures) in let e = rw (c .before .before .before .before .before .before .before .before .before .before .before .before .before .before .before .less .ensures, c .before .before .before .before .before .before .before .before .before .before .before .before .before .before .before .before .neighbour-volume .ensures) at (c .before .six-fits .ensures) in six-gives i _ _ (inputs-past (a .r) (now (a .store)) (now (a .marks)) _ (c .before .before .before .before .before .before .before .before .before .before .before .before .before .find-past .ensures) (not-false _ (c .before .before .before .before .before .before .before .before .before .before .before .if1 .left))) (rw (c .before .before .before .before .before .before .before .before .before .counted .ensures) at (c .before .before .before .before .before .before .before .before .if2 .left)) (sym (six-test k _ _ _ (c .before .before .before .before .before .before .before .before .before .before .before .before .before .before .before .before .before .before .before .before .pre .1) e (c .before .before .before .before .before .before .before .before .before .before .before .before .before .before .point-power .ensures) (c .before .before .capacity-sum .ensures) (g .hours)) ∙ c .if3 .taken) g)
-    (λ c κs. let k = known _ _ _ _ (c .before .before .before .before .before .before .before .before .before .before .before .before .before .before .before .before .before .before .before .before .before .pre .0) in (omega (arith, c .before .before .before .before .before .before .before .before .before .before .before .before .before .before .before .before .less .ensures, k .control), marks-some k, marks-few k, six-room _ _ _ (rw (c .before .before .before .before .before .before .before .before .before .before .before .open-hours .ensures) (k .buffers .few)) (c .before .before .before .before .before .before .before .ground-six .ensures .hours)))
+    (λ c.
+    let back6 = c .before .before .before .before .before .before in let back8 = back6 .before .before in let back9 = back8 .before in
+    let back10 = back9 .before in let back11 = back10 .before in let back13 = back11 .before .before in let back14 = back13 .before in
+    let back15 = back14 .before in let back16 = back15 .before in let back20 = back16 .before .before .before .before in
+    let a = back20 .args in
+    let i = inputs (state (a .r) (now (a .store))) (now (a .marks)) in
+    let k = known _ _ _ _ (back20 .pre .0) in
+    let g = rw (back10 .open-hours .ensures, back15 .less .ensures, back16 .neighbour-volume .ensures) at (back6 .ground-six .ensures) in
+    let e = rw (back15 .less .ensures, back16 .neighbour-volume .ensures) at (c .before .six-fits .ensures) in
+    six-gives i _ _ (inputs-past (a .r) (now (a .store)) (now (a .marks)) _ (back13 .find-past .ensures) (not-false _ (back11 .if1 .left)))
+    (rw (back9 .counted .ensures) at (back8 .if2 .left))
+    (sym (six-test k _ _ _ (back20 .pre .1) e (back14 .point-power .ensures) (c .before .before .capacity-sum .ensures) (g .hours)) ∙ c .if3 .taken) g)
+    (λ c κs.
+    let back7 = c .before .before .before .before .before .before .before in let back11 = back7 .before .before .before .before in
+    let back16 = back11 .before .before .before .before .before in let back21 = back16 .before .before .before .before .before in
+    let k = known _ _ _ _ (back21 .pre .0) in (
+      omega (arith, back16 .less .ensures, k .control),
+      marks-some k,
+      marks-few k,
+      six-room _ _ _ (rw (back11 .open-hours .ensures) (k .buffers .few)) (back7 .ground-six .ensures .hours),
+    ))
     (λ c. search needs)
-    (λ c. let a = c .before .before .before .before .before .before .before .before .before .before .before .before .before .before .before .before .before .before .before .before .before .before .before .before .args in let i = inputs (state (a .r) (now (a .store))) (now (a .marks)) in let k = known _ _ _ _ (c .before .before .before .before .before .before .before .before .before .before .before .before .before .before .before .before .before .before .before .before .before .before .before .before .pre .0) in let g = rw (c .before .before .before .before .before .before .before .before .before .before .before .before .before .before .open-hours .ensures, c .before .before .before .before .before .before .before .before .before .before .before .before .before .before .before .before .before .before .before .less .ensures, c .before .before .before .before .before .before .before .before .before .before .before .before .before .before .before .before .before .before .before .before .neighbour-volume .ensures) at (c .before .before .before .before .before .before .before .before .before .before .ground-six .ensures) in let e = rw (c .before .before .before .before .before .before .before .before .before .before .before .before .before .before .before .before .before .before .before .less .ensures, c .before .before .before .before .before .before .before .before .before .before .before .before .before .before .before .before .before .before .before .before .neighbour-volume .ensures) at (c .before .before .before .before .before .six-fits .ensures) in later-gives i _ _ (inputs-past (a .r) (now (a .store)) (now (a .marks)) _ (c .before .before .before .before .before .before .before .before .before .before .before .before .before .before .before .before .before .find-past .ensures) (not-false _ (c .before .before .before .before .before .before .before .before .before .before .before .before .before .before .before .if1 .left))) (rw (c .before .before .before .before .before .before .before .before .before .before .before .before .before .counted .ensures) at (c .before .before .before .before .before .before .before .before .before .before .before .before .if2 .left)) (sym (six-test k _ _ _ (c .before .before .before .before .before .before .before .before .before .before .before .before .before .before .before .before .before .before .before .before .before .before .before .before .pre .1) e (c .before .before .before .before .before .before .before .before .before .before .before .before .before .before .before .before .before .before .point-power .ensures) (c .before .before .before .before .before .before .capacity-sum .ensures) (g .hours)) ∙ c .before .before .before .before .if3 .left) (rw (c .before .before .before .before .before .before .before .before .before .before .before .before .before .before .before .before .before .before .before .less .ensures, c .before .before .before .before .before .before .before .before .before .before .before .before .before .before .before .before .before .before .before .before .neighbour-volume .ensures, c .before .before .before .before .before .before .before .before .before .before .before .before .before .before .before .before .before .before .point-power .ensures) at (c .before .before .ground-five2 .ensures))))
+    (λ c.
+    let back4 = c .before .before .before .before in let back5 = back4 .before in let back6 = back5 .before in
+    let back10 = back6 .before .before .before .before in let back12 = back10 .before .before in let back13 = back12 .before in
+    let back14 = back13 .before in let back15 = back14 .before in let back17 = back15 .before .before in let back18 = back17 .before in
+    let back19 = back18 .before in let back20 = back19 .before in let back24 = back20 .before .before .before .before in
+    let a = back24 .args in
+    let i = inputs (state (a .r) (now (a .store))) (now (a .marks)) in
+    let k = known _ _ _ _ (back24 .pre .0) in
+    let g = rw (back14 .open-hours .ensures, back19 .less .ensures, back20 .neighbour-volume .ensures) at (back10 .ground-six .ensures) in
+    let e = rw (back19 .less .ensures, back20 .neighbour-volume .ensures) at (back5 .six-fits .ensures) in
+    later-gives i _ _ (inputs-past (a .r) (now (a .store)) (now (a .marks)) _ (back17 .find-past .ensures) (not-false _ (back15 .if1 .left)))
+    (rw (back13 .counted .ensures) at (back12 .if2 .left))
+    (sym (six-test k _ _ _ (back24 .pre .1) e (back18 .point-power .ensures) (back6 .capacity-sum .ensures) (g .hours)) ∙ back4 .if3 .left)
+    (rw (back19 .less .ensures, back20 .neighbour-volume .ensures, back18 .point-power .ensures) at (c .before .before .ground-five2 .ensures))))

@@ -16,12 +16,31 @@ on-past-spec =
     (λ c κs. known _ _ _ _ (c .before .before .before .before .before .pre) .run)
     (λ c κs. search needs)
     (λ c. search needs)
-    (λ c κs. let k = known _ _ _ _ (c .before .before .before .before .before .before .before .before .before .pre) in rw (c .before .open-hours .ensures) (k .buffers, c .before .before .before .before .before .find-past .ensures .fits))
+    (λ c κs.
+    let back5 = c .before .before .before .before .before in let back9 = back5 .before .before .before .before in
+    let k = known _ _ _ _ (back9 .pre) in rw (c .before .open-hours .ensures) (k .buffers, back5 .find-past .ensures .fits))
     (λ c. search needs)
-    (λ c. let a = c .before .before .before .before .before .before .before .before .before .before .before .before .args in let i = inputs (state (a .r) (now (a .store))) (now (a .marks)) in seven-gives i _ (inputs-past (a .r) (now (a .store)) (now (a .marks)) _ (c .before .before .before .before .before .before .before .before .find-past .ensures) (c .before .before .before .before .before .before .before .if1 .taken)) (rw (c .before .before .before .before .before .before .counted .ensures) at (c .before .before .before .before .before .if2 .taken)) (c .before .before .before .before .open-hours .ensures) (c .before .before .ground-seven .ensures))
+    (λ c.
+    let back4 = c .before .before .before .before in let back5 = back4 .before in let back6 = back5 .before in let back7 = back6 .before in
+    let back8 = back7 .before in let back12 = back8 .before .before .before .before in
+    let a = back12 .args in
+    let i = inputs (state (a .r) (now (a .store))) (now (a .marks)) in
+    seven-gives i _ (inputs-past (a .r) (now (a .store)) (now (a .marks)) _ (back8 .find-past .ensures) (back7 .if1 .taken))
+    (rw (back6 .counted .ensures) at (back5 .if2 .taken)) (back4 .open-hours .ensures) (c .before .before .ground-seven .ensures))
     (λ c κs. search needs)
     (λ c. search needs)
-    (λ c. let a = c .before .before .before .before .before .before .before .before .before .before .before .args in let i = inputs (state (a .r) (now (a .store))) (now (a .marks)) in late-gives i _ (inputs-past (a .r) (now (a .store)) (now (a .marks)) _ (c .before .before .before .before .before .before .before .find-past .ensures) (c .before .before .before .before .before .before .if1 .taken)) (rw (c .before .before .before .before .before .counted .ensures) at (c .before .before .before .before .if2 .left)) (c .before .before .by-contract .ensures))
+    (λ c.
+    let back4 = c .before .before .before .before in let back5 = back4 .before in let back6 = back5 .before in let back7 = back6 .before in
+    let back11 = back7 .before .before .before .before in
+    let a = back11 .args in
+    let i = inputs (state (a .r) (now (a .store))) (now (a .marks)) in
+    late-gives i _ (inputs-past (a .r) (now (a .store)) (now (a .marks)) _ (back7 .find-past .ensures) (back6 .if1 .taken))
+    (rw (back5 .counted .ensures) at (back4 .if2 .left)) (c .before .before .by-contract .ensures))
     (λ c κs. search needs)
     (λ c. search needs)
-    (λ c. let a = c .before .before .before .before .before .before .before .before .before .args in let i = inputs (state (a .r) (now (a .store))) (now (a .marks)) in none-gives i (inputs-no-past (a .r) (now (a .store)) (now (a .marks)) _ (c .before .before .before .before .before .find-past .ensures) (c .before .before .before .before .if1 .left)) (c .before .before .by-contract2 .ensures)))
+    (λ c.
+    let back4 = c .before .before .before .before in let back5 = back4 .before in let back9 = back5 .before .before .before .before in
+    let a = back9 .args in
+    let i = inputs (state (a .r) (now (a .store))) (now (a .marks)) in
+    none-gives i (inputs-no-past (a .r) (now (a .store)) (now (a .marks)) _ (back5 .find-past .ensures) (back4 .if1 .left))
+    (c .before .before .by-contract2 .ensures)))

@@ -2,6 +2,7 @@
 use borrow.Author.Needs.{needs}
 use native.Mathlib.Omega.{arith}
 use lib.Dec.{lit≤}
+use Rattle.units.specs.Volumes.{greatestVolumeRead}
 use Rattle.first_ground.proofs.Firsts.{six-small}
 use Rattle.first_ground.proofs.six_fits.Statement.{statement}
 use Rattle.first_ground.proofs.six_fits.Tie as tie
@@ -12,7 +13,7 @@ mul-result c =
     let start = c .before .before .before .before .before in
     omega (
       arith,
-      six-small (a .result .0) (start .args .survey .days) 744000000 31 (omega (arith, a .ensures, start .pre .0)) (start .pre .2) (lit≤ tt),
+      six-small (a .result .0) (start .args .survey .days) greatestVolumeRead 31 (omega (arith, a .ensures, start .pre .0)) (start .pre .2) (lit≤ tt),
     )
 
 mul-result-2 : tie.Need-mul-result-2

@@ -11,8 +11,17 @@ open-and-close-spec =
     (tie.spec
     (λ c κs. search needs)
     (λ c. search needs)
-    (λ c. let a = c .before .before .before .before .before .before .before .before .before .before .args in opened-only (record { asked = a .asked; date = a .date; currents = now (a .currents); place = a .place }) (now (a .store)) (now (a .marks)) (now (a .hours)) _ (c .before .before .before .before .open-point .ensures) (c .if1 .taken))
+    (λ c.
+    let back4 = c .before .before .before .before in let back10 = back4 .before .before .before .before .before .before in
+    let a = back10 .args in
+    opened-only (record { asked = a .asked; date = a .date; currents = now (a .currents); place = a .place }) (now (a .store)) (now (a .marks))
+    (now (a .hours)) _ (back4 .open-point .ensures) (c .if1 .taken))
     (λ c κs. search needs)
     (λ c. search needs)
     (λ c. search needs)
-    (λ c. let a = c .before .before .before .before .before .before .before .before .before .before .before .before .before .before .before .before .before .before .args in opened-and-closed (record { asked = a .asked; date = a .date; currents = now (a .currents); place = a .place }) (now (a .store)) _ (now (a .marks)) (now (a .hours)) (c .before .before .before .before .before .before .before .before .before .before .before .before .open-point .result) (c .before .before .before .before .before .before .before .before .before .before .before .before .open-point .ensures) (c .before .before .before .before .before .before .before .before .if1 .left) (c .before .before .before .before .close .ensures)))
+    (λ c.
+    let back4 = c .before .before .before .before in let back8 = back4 .before .before .before .before in
+    let back12 = back8 .before .before .before .before in let back18 = back12 .before .before .before .before .before .before in
+    let a = back18 .args in
+    opened-and-closed (record { asked = a .asked; date = a .date; currents = now (a .currents); place = a .place }) (now (a .store)) _
+    (now (a .marks)) (now (a .hours)) (back12 .open-point .result) (back12 .open-point .ensures) (back8 .if1 .left) (back4 .close .ensures)))

@@ -10,6 +10,8 @@ ground-eight-spec =
     tie.close
     (tie.spec
     (λ c κs. search needs)
-    (λ c κs. let p = c .before .before .before .pre in (agreed-most _ _ (c .before .energy .ensures) (p .0) (p .2), omega (arith, p .1), omega (arith, p .2), p .3))
+    (λ c κs.
+    let back3 = c .before .before .before in
+    let p = back3 .pre in (agreed-most _ _ (c .before .energy .ensures) (p .0) (p .2), omega (arith, p .1), omega (arith, p .2), p .3))
     (λ c. search needs)
     (λ c. rw (c .before .before .before .before .energy .ensures) at (c .before .before .evenly .ensures)))

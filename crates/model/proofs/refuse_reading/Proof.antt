@@ -12,4 +12,6 @@ refuse-reading-spec =
     (λ c κs. search needs)
     (λ c κs. search needs)
     (λ c κs. search needs)
-    (λ c. rw (c .refuse-if5 .ensures, c .before .refuse-if4 .ensures, c .before .before .refuse-if3 .ensures, c .before .before .before .refuse-if2 .ensures, c .before .before .before .before .refuse-if .ensures)))
+    (λ c.
+    let back3 = c .before .before .before in let back4 = back3 .before in
+    rw (c .refuse-if5 .ensures, c .before .refuse-if4 .ensures, c .before .before .refuse-if3 .ensures, back3 .refuse-if2 .ensures, back4 .refuse-if .ensures)))

@@ -25,7 +25,11 @@ clear-spec =
     (λ c. omega arith)
     (λ c. omega arith)
     (λ c. omega arith)
-    (λ c. (omega arith, simp length-set (c .before .loop .inv .1), rw (c .before .loop .inv .2) (fill-more (c .before .loop .i) 0 (c .before .before .args .words .now) (omega arith))))
+    (λ c. (
+      omega arith,
+      simp length-set (c .before .loop .inv .1),
+      rw (c .before .loop .inv .2) (fill-more (c .before .loop .i) 0 (c .before .before .args .words .now) (omega arith)),
+    ))
     (λ c. c .before .loop .inv .1)
     (λ c.
     let e : c .before .loop .i ≡ length (c .before .before .args .words .now) = omega arith in

@@ -16,14 +16,23 @@ open-point-spec =
     (λ c κs. search needs)
     (λ c κs. search needs)
     (λ c κs. search needs)
-    (λ c. not-opened _ _ (c .before .before .before .open-refusal .ensures) (c .before .before .if1 .taken) (rw (c .before .zero-record .ensures) at (c .answer-with .ensures)))
+    (λ c.
+    let back3 = c .before .before .before in
+    not-opened _ _ (back3 .open-refusal .ensures) (c .before .before .if1 .taken) (rw (c .before .zero-record .ensures) at (c .answer-with .ensures)))
     (λ c κs. search needs)
     (λ c κs. search needs)
     (λ c κs. search needs)
     (λ c κs. search needs)
     (λ c κs. search needs)
     (λ c. search needs)
-    (λ c. let h = sym (c .before .before .before .before .before .before .before .before .before .open-refusal .ensures) ∙ c .before .before .before .before .before .before .before .before .if1 .left in
-    now-opened _ _ (c .before .before .before .before .before .before .before .before .before .open-refusal .ensures) (c .before .before .before .before .before .before .before .before .if1 .left)
-    (rw (c .before .fresh-record .ensures, c .before .before .keep .ensures ∙ kept-is _ _ _ h (c .before .before .before .before .before .before .before .power-of .ensures)) at (c .answer-with2 .ensures))
+    (λ c.
+    let back8 = c .before .before .before .before .before .before .before .before in let back9 = back8 .before in
+    let h = sym (back9 .open-refusal .ensures) ∙ back8 .if1 .left in
+    now-opened _ _ (c .before .before .before .before .before .before .before .before .before .open-refusal .ensures)
+    (c .before .before .before .before .before .before .before .before .if1 .left)
+    (rw (
+      c .before .fresh-record .ensures,
+      c .before .before .keep .ensures
+          ∙ kept-is _ _ _ h (c .before .before .before .before .before .before .before .power-of .ensures),
+    ) at (c .answer-with2 .ensures))
     (c .before .before .before .before .before .clear-store .ensures ∙ rw (eq-eqb _ 10416 (allowed _ h .size)))))

@@ -21,4 +21,21 @@ open-refusal-spec =
     (λ c κs. search needs)
     (λ c κs. search needs)
     (λ c κs. search needs)
-    (λ c. rw (c .refuse-if6 .ensures, c .before .refuse-if5 .ensures, c .before .before .is-month .ensures, c .before .before .before .refuse-if4 .ensures, c .before .before .before .before .meters-fit .ensures, c .before .before .before .before .before .refuse-if3 .ensures, c .before .before .before .before .before .before .refuse-if2 .ensures, c .before .before .before .before .before .before .before .cable-fits .ensures, c .before .before .before .before .before .before .before .before .refuse-if .ensures, c .before .before .before .before .before .before .before .before .before .list-fits .ensures, c .before .before .before .before .before .before .before .before .before .before .before .agreed-fits .ensures, c .before .before .before .before .before .before .before .before .before .before .before .before .is-agreed .ensures)))
+    (λ c.
+    let back3 = c .before .before .before in let back4 = back3 .before in let back5 = back4 .before in let back6 = back5 .before in
+    let back7 = back6 .before in let back8 = back7 .before in let back9 = back8 .before in let back11 = back9 .before .before in
+    let back12 = back11 .before in
+    rw (
+      c .refuse-if6 .ensures,
+      c .before .refuse-if5 .ensures,
+      c .before .before .is-month .ensures,
+      back3 .refuse-if4 .ensures,
+      back4 .meters-fit .ensures,
+      back5 .refuse-if3 .ensures,
+      back6 .refuse-if2 .ensures,
+      back7 .cable-fits .ensures,
+      back8 .refuse-if .ensures,
+      back9 .list-fits .ensures,
+      back11 .agreed-fits .ensures,
+      back12 .is-agreed .ensures,
+    )))

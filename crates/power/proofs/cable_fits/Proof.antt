@@ -14,4 +14,7 @@ cable-fits-spec =
     (λ c κs. search needs)
     (λ c κs. search needs)
     (λ c κs. search needs)
-    (λ c. c .numbers-fit .ensures ∙ ap cableFits (same-cable _ (c .before .before .before .before .wide .ensures) (c .before .before .before .wide2 .ensures) (c .before .before .wide3 .ensures) (c .before .wide4 .ensures))))
+    (λ c.
+    let back3 = c .before .before .before in let back4 = back3 .before in
+    c .numbers-fit .ensures
+    ∙ ap cableFits (same-cable _ (back4 .wide .ensures) (back3 .wide2 .ensures) (c .before .before .wide3 .ensures) (c .before .wide4 .ensures))))

@@ -15,4 +15,8 @@ formula-of-spec =
     (λ c κs. search needs)
     (λ c κs. search needs)
     (λ c κs. search needs)
-    (λ c. c .cable-formula .ensures ∙ ap (λ (k : Cable). formulaIn k (c .before .before .before .before .before .args .hours)) (same-cable _ (c .before .before .before .before .wide .ensures) (c .before .before .before .wide2 .ensures) (c .before .before .wide3 .ensures) (c .before .wide4 .ensures))))
+    (λ c.
+    let back3 = c .before .before .before in let back4 = back3 .before in let back5 = back4 .before in
+    c .cable-formula .ensures
+    ∙ ap (λ (k : Cable). formulaIn k (back5 .args .hours))
+    (same-cable _ (back4 .wide .ensures) (back3 .wide2 .ensures) (c .before .before .wide3 .ensures) (c .before .wide4 .ensures))))

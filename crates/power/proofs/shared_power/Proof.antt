@@ -16,6 +16,7 @@ shared-power-spec =
     (λ c.
     let tested = c .before .before in
     let args = tested .before .before .before .args in
-    let fits : agreedFits (args .agreed .0) && listFits (args .currents .now) (args .place) ≡ true = rw (tested .before .agreed-fits .ensures, tested .list-fits .ensures) at (c .before .if1 .taken) in
+    let fits : agreedFits (args .agreed .0) && listFits (args .currents .now) (args .place)
+    ≡ true = rw (tested .before .agreed-fits .ensures, tested .list-fits .ensures) at (c .before .if1 .taken) in
     rw fits (c .share-power .ensures ∙ shared-in _ _ _ fits))
     (λ c. rw (← c .before .before .agreed-fits .ensures, ← c .before .list-fits .ensures, c .if1 .left)))

@@ -19,11 +19,13 @@ worked-spec =
     (λ c. let l = c .before .before .pre .0 in omega (arith, mul-le-mul (l .amperes) (l .volts)))
     (λ c.
     let l = c .before .before .pre .0 in
-    let counted : c .before .pick-wide .result ≤ 1000 = rw (c .before .pick-wide .ensures) (cond-most (eqb (c .before .before .args .cosine) 0) (omega arith) (l .cosine)) in
+    let counted : c .before .pick-wide .result ≤ 1000 =
+    rw (c .before .pick-wide .ensures) (cond-most (eqb (c .before .before .args .cosine) 0) (omega arith) (l .cosine)) in
     omega (arith, mul-le-mul (mul-le-mul (l .amperes) (l .volts)) counted))
     (λ c.
     let l = c .before .before .pre .0 in
-    let counted : c .before .pick-wide .result ≤ 1000 = rw (c .before .pick-wide .ensures) (cond-most (eqb (c .before .before .args .cosine) 0) (omega arith) (l .cosine)) in
+    let counted : c .before .pick-wide .result ≤ 1000 =
+    rw (c .before .pick-wide .ensures) (cond-most (eqb (c .before .before .args .cosine) 0) (omega arith) (l .cosine)) in
     omega (arith, mul-le-mul (mul-le-mul (mul-le-mul (l .amperes) (l .volts)) counted) (c .before .before .pre .1)))
     (λ c κs. search needs)
     (λ c. c .half-up .ensures ∙ rw (c .before .before .pick-wide .ensures, c .before .pick-wide2 .ensures)))

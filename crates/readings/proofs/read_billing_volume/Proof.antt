@@ -18,10 +18,12 @@ read-billing-volume-spec =
     (λ c κs. search needs)
     (λ c κs. search needs)
     (λ c. let a = c .before .before .before .before .args in
-    refused (state (a .r) (now (a .store))) (billingVolume _) (c .before .before .billing-volume-refusal .ensures) (c .before .if1 .taken) (c .answer-with .ensures))
+    refused (state (a .r) (now (a .store))) (billingVolume _) (c .before .before .billing-volume-refusal .ensures) (c .before .if1 .taken)
+    (c .answer-with .ensures))
     (λ c κs. search needs)
     (λ c κs. search needs)
     (λ c κs. search needs)
     (λ c. let p = c .before .before .before in
     let a = p .before .before .before .args in
-    done (state (a .r) (now (a .store))) (billingVolume _) (p .before .billing-volume-refusal .ensures) (p .if1 .left) refl refl (rw (c .before .with-billing .ensures, c .before .before .given-as .ensures) at (c .answer-with2 .ensures)) refl))
+    done (state (a .r) (now (a .store))) (billingVolume _) (p .before .billing-volume-refusal .ensures) (p .if1 .left) refl refl
+    (rw (c .before .with-billing .ensures, c .before .before .given-as .ensures) at (c .answer-with2 .ensures)) refl))

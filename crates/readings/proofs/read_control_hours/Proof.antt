@@ -20,7 +20,8 @@ read-control-hours-spec =
     (λ c κs. search needs)
     (λ c κs. search needs)
     (λ c. let a = c .before .before .before .before .before .args in
-    refused (state (a .r) (now (a .store))) (controlHours _) (c .before .before .control-hours-refusal .ensures) (c .before .if1 .taken) (c .answer-with .ensures))
+    refused (state (a .r) (now (a .store))) (controlHours _) (c .before .before .control-hours-refusal .ensures) (c .before .if1 .taken)
+    (c .answer-with .ensures))
     (λ c κs. search needs)
     (λ c κs. search needs)
     (λ c κs. search needs)
@@ -28,4 +29,7 @@ read-control-hours-spec =
     (λ c. search needs)
     (λ c. let p = c .before .before .before .before .before .before .before in
     let a = p .before .before .before .before .args in
-    done (state (a .r) (now (a .store))) (controlHours _) (p .before .control-hours-refusal .ensures) (p .if1 .left) refl refl (rw (c .before .with-control .ensures, c .before .before .given-hours .ensures) at (c .answer-with2 .ensures)) (c .before .before .before .before .before .write-row .ensures ∙ hours-written _ _ _ _ _ _ (lit≤ tt) (p .before .control-hours-refusal .ensures) (p .if1 .left))))
+    done (state (a .r) (now (a .store))) (controlHours _) (p .before .control-hours-refusal .ensures) (p .if1 .left) refl refl
+    (rw (c .before .with-control .ensures, c .before .before .given-hours .ensures) at (c .answer-with2 .ensures))
+    (c .before .before .before .before .before .write-row .ensures ∙ hours-written _ _ _ _ _ _ (lit≤ tt)
+    (p .before .control-hours-refusal .ensures) (p .if1 .left))))

@@ -25,9 +25,13 @@ read-neighbour-spec =
     (λ c κs. search needs)
     (λ c. let p = c .before .before .before .before in
     let a = p .before .before .before .args in
-    done (state (a .r) (now (a .store))) (neighbour _ _) (p .before .neighbour-refusal .ensures) (p .if1 .left) refl refl (rw (eq-eqb (a .source) 1 (c .before .before .if2 .taken)) (rw (c .before .with-first .ensures, c .before .before .before .given-as .ensures) at (c .answer-with2 .ensures))) refl)
+    done (state (a .r) (now (a .store))) (neighbour _ _) (p .before .neighbour-refusal .ensures) (p .if1 .left) refl refl
+    (rw (eq-eqb (a .source) 1 (c .before .before .if2 .taken))
+    (rw (c .before .with-first .ensures, c .before .before .before .given-as .ensures) at (c .answer-with2 .ensures))) refl)
     (λ c κs. search needs)
     (λ c κs. search needs)
     (λ c. let p = c .before .before .before .before in
     let a = p .before .before .before .args in
-    done (state (a .r) (now (a .store))) (neighbour _ _) (p .before .neighbour-refusal .ensures) (p .if1 .left) refl refl (rw (ne-eqb (a .source) 1 (c .before .before .if2 .left)) (rw (c .before .with-second .ensures, c .before .before .before .given-as .ensures) at (c .answer-with3 .ensures))) refl))
+    done (state (a .r) (now (a .store))) (neighbour _ _) (p .before .neighbour-refusal .ensures) (p .if1 .left) refl refl
+    (rw (ne-eqb (a .source) 1 (c .before .before .if2 .left))
+    (rw (c .before .with-second .ensures, c .before .before .before .given-as .ensures) at (c .answer-with3 .ensures))) refl))

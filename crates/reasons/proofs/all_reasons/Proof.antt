@@ -3,7 +3,7 @@ use borrow.Author.Needs.{needs}
 use denote.Ref.{now}
 use mathlib.Core.Path.{ap, _∙_}
 use Rattle.calendar.specs.Calendar.{openHours}
-use Rattle.sharing.specs.Shares.{rowPart}
+use Rattle.store.specs.Store.{rowPart}
 use Rattle.model.specs.Model.{inputs}
 use Rattle.first_ground.proofs.Laws.{known, peaks-are}
 use Rattle.marks.specs.declared.Survey.{Survey}
@@ -25,4 +25,20 @@ all-reasons-spec =
     (λ c κs. known _ _ _ _ (c .before .before .before .before .before .before .before .before .before .pre) .sound)
     (λ c κs. search needs)
     (λ c. search needs)
-    (λ c. let a = c .before .before .before .before .before .before .before .before .before .before .before .before .before .before .args in let t = openHours (a .r .date) in rw (c .before .before .before .before .before .before .before .before .before .clause-of .ensures, c .before .before .before .before .before .before .before .before .reading-of .ensures (rowPart (now (a .store)) 12 t) (rowPart (now (a .store)) 13 t), c .before .before .before .before .before .before .before .neighbour-volume .ensures, c .before .before .before .before .before .before .point-power .ensures, ap (λ (x : Survey). x .peaks) (c .before .before .before .before .before .before .before .before .before .before .survey-marks .ensures) ∙ peaks-are (known _ _ _ _ (c .before .before .before .before .before .before .before .before .before .before .before .before .before .before .pre)), c .before .before .before .before .before .counted .ensures, c .before .before .before .before .past-month .ensures, c .before .before .compared .ensures)))
+    (λ c.
+    let back4 = c .before .before .before .before in let back5 = back4 .before in let back6 = back5 .before in let back7 = back6 .before in
+    let back8 = back7 .before in let back9 = back8 .before in let back10 = back9 .before in
+    let back14 = back10 .before .before .before .before in
+    let a = back14 .args in
+    let t = openHours (a .r .date) in
+    rw (
+      back9 .clause-of .ensures,
+      back8 .volume-read .ensures (rowPart (now (a .store)) 12 t) (rowPart (now (a .store)) 13 t),
+      back7 .neighbour-volume .ensures,
+      back6 .point-power .ensures,
+      ap (λ (x : Survey). x .peaks) (back10 .survey-marks .ensures)
+          ∙ peaks-are (known _ _ _ _ (back14 .pre)),
+      back5 .counted .ensures,
+      back4 .past-month .ensures,
+      c .before .before .compared .ensures,
+    )))

@@ -12,9 +12,11 @@ fill-apart-requires c κs =
     let others = others-count (counted .count .ensures) in (
       (counted .count .ensures, others),
       (
-        under-even (chosenAt chosen) (c .before .before .before .start .ensures) (c .before .before .before .before .whole-of .ensures) (counted .count .ensures .is) (search needs) (search needs) (search needs) (search needs),
+        under-even (chosenAt chosen) (c .before .before .before .start .ensures) (c .before .before .before .before .whole-of .ensures)
+            (counted .count .ensures .is) (search needs) (search needs) (search needs) (search needs),
         (
-          under-even (otherAt chosen) (c .before .start2 .ensures) (c .before .before .whole-of2 .ensures) (others .is) (search needs) (search needs) (search needs) (search needs),
+          under-even (otherAt chosen) (c .before .start2 .ensures) (c .before .before .whole-of2 .ensures) (others .is) (search needs) (search needs)
+              (search needs) (search needs),
           (search needs, search needs),
         ),
       ),

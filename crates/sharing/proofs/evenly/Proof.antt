@@ -13,7 +13,13 @@ evenly-spec =
     (λ c κs. tt)
     (λ c κs.
     let weighed = c .before .before .before .before .before .before in
-    let counted = weighed .before .count .ensures in
-    (counted, (under-even _ (c .before .start .ensures) (weighed .whole-of .ensures) (counted .is) (counted .most) (search needs) (search needs) (search needs), search needs)))
+    let counted = weighed .before .count .ensures in (
+      counted,
+      (
+        under-even _ (c .before .start .ensures) (weighed .whole-of .ensures) (counted .is) (counted .most) (search needs) (search needs)
+            (search needs),
+        search needs,
+      ),
+    ))
     (λ c. search needs)
     (λ c. search (shared, needs)))

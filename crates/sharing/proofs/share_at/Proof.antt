@@ -20,7 +20,11 @@ returns : tie.Need-returns
 unfolding shareIn weightsFit
 returns c =
     let tested = c .before .before .before .before in
-    rw (sym (tested .before .month-fits .ensures) ∙ tested .if1 .taken, ← c .before .before .before .sum-first .ensures, le-leb _ _ (c .before .before .if2 .taken))
+    rw (
+      sym (tested .before .month-fits .ensures) ∙ tested .if1 .taken,
+      ← c .before .before .before .sum-first .ensures,
+      le-leb _ _ (c .before .before .if2 .taken),
+    )
     (c .at-place .ensures)
 
 returns-2 : tie.Need-returns-2

@@ -20,7 +20,8 @@ returns c =
     let summed = c .before .before .before .before .before in
     let tested = summed .before in
     shared-yes
-    (rw (sym (tested .before .month-fits .ensures) ∙ tested .if1 .taken, ← summed .total .ensures) (le-leb _ _ (c .before .before .before .before .if2 .taken)))
+    (rw (sym (tested .before .month-fits .ensures) ∙ tested .if1 .taken, ← summed .total .ensures)
+    (le-leb _ _ (c .before .before .before .before .if2 .taken)))
     refl
     (c .before .before .by-past .ensures)
 

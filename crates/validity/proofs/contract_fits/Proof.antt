@@ -11,4 +11,6 @@ contract-fits-spec =
     (λ c κs. search needs)
     (λ c κs. search needs)
     (λ c κs. search needs)
-    (λ c. rw (c .rest-is-zero .ensures, c .before .cable-fits .ensures, c .before .before .before .is-agreed .ensures, c .before .before .before .before .meters-fit .ensures)))
+    (λ c.
+    let back3 = c .before .before .before in let back4 = back3 .before in
+    rw (c .rest-is-zero .ensures, c .before .cable-fits .ensures, back3 .is-agreed .ensures, back4 .meters-fit .ensures)))

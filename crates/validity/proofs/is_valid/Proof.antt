@@ -15,4 +15,13 @@ is-valid-spec =
     (λ c κs. search needs)
     (λ c κs. search needs)
     (λ c κs. search needs)
-    (λ c. rw (c .before .readings-fit .ensures, c .before .before .volume-limit .ensures, c .before .before .before .past-fits .ensures, c .before .before .before .before .service-fits .ensures, c .before .before .before .before .before .is-open .ensures, c .before .before .before .before .before .before .contract-fits .ensures)))
+    (λ c.
+    let back3 = c .before .before .before in let back4 = back3 .before in let back5 = back4 .before in let back6 = back5 .before in
+    rw (
+      c .before .readings-fit .ensures,
+      c .before .before .volume-limit .ensures,
+      back3 .past-fits .ensures,
+      back4 .service-fits .ensures,
+      back5 .is-open .ensures,
+      back6 .contract-fits .ensures,
+    )))

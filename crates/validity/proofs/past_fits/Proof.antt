@@ -11,4 +11,6 @@ past-fits-spec =
     (λ c κs. search needs)
     (λ c κs. search needs)
     (λ c κs. search needs)
-    (λ c. rw (c .latest-in-row .ensures, c .before .before .month-number .ensures, c .before .before .before .is-month-number .ensures, c .before .before .before .before .before .years-fit .ensures)))
+    (λ c.
+    let back3 = c .before .before .before in let back5 = back3 .before .before in
+    rw (c .latest-in-row .ensures, c .before .before .month-number .ensures, back3 .is-month-number .ensures, back5 .years-fit .ensures)))

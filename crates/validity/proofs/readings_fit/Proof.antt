@@ -11,4 +11,6 @@ readings-fit-spec =
     (λ c κs. search needs)
     (λ c κs. search needs)
     (λ c κs. search needs)
-    (λ c. rw (c .reading-fits4 .ensures, c .before .reading-fits3 .ensures, c .before .before .reading-fits2 .ensures, c .before .before .before .before .before .reading-fits .ensures)))
+    (λ c.
+    let back5 = c .before .before .before .before .before in
+    rw (c .reading-fits4 .ensures, c .before .reading-fits3 .ensures, c .before .before .reading-fits2 .ensures, back5 .reading-fits .ensures)))

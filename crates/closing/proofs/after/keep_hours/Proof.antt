@@ -12,5 +12,8 @@ keep-hours-spec =
     (tie.spec
     (λ c κs. search needs)
     (λ c. search needs)
-    (λ c. let p = c .before .before .before .before .before .before .before .pre in let few = p .1 in let long = p .2 in c .before .before .write-row .ensures ∙ rw (c .before .before .before .before .if1 .taken) (written-in _ _ _ (omega arith) (omega arith) (p .0)))
+    (λ c.
+    let back4 = c .before .before .before .before in let back7 = back4 .before .before .before in
+    let p = back7 .pre in
+    let few = p .1 in let long = p .2 in c .before .before .write-row .ensures ∙ rw (back4 .if1 .taken) (written-in _ _ _ (omega arith) (omega arith) (p .0)))
     (λ c. rw (c .if1 .left)))

@@ -20,4 +20,11 @@ past-after-spec =
     (λ c. omega (arith, limits _ (c .before .before .before .pre)))
     (λ c κs. search needs)
     (λ c κs. search needs)
-    (λ c. rw (c .pick-wide .ensures, c .before .month-number .ensures, c .before .before .pick .ensures, years-are (c .before .before .before .before .before .args .new) (c .before .before .before .before .before .args .p .years) (c .before .before .before .before .before .args .d .month - 1) (c .before .before .before .before .before .args .d .year))))
+    (λ c.
+    let back5 = c .before .before .before .before .before in
+    rw (
+      c .pick-wide .ensures,
+      c .before .month-number .ensures,
+      c .before .before .pick .ensures,
+      years-are (back5 .args .new) (back5 .args .p .years) (back5 .args .d .month - 1) (back5 .args .d .year),
+    )))

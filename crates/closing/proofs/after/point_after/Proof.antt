@@ -15,4 +15,7 @@ point-after-spec =
     (λ c κs. c .before .before .before .pre .0)
     (λ c κs. search needs)
     (λ c. let p = c .before .before .before .before .before .before .before .pre in omega (arith, p .2, p .3))
-    (λ c. rw (c .before .before .before .before .before .before .before .next-month .ensures, next-in _ (c .before .before .before .before .before .before .before .before .pre .0), c .before .before .before .before .before .pick .ensures, c .before .before .before .before .past-after .ensures, c .before .before .before .no-readings .ensures)))
+    (λ c.
+    let back3 = c .before .before .before in let back4 = back3 .before in let back5 = back4 .before in let back7 = back5 .before .before in
+    let back8 = back7 .before in
+    rw (back7 .next-month .ensures, next-in _ (back8 .pre .0), back5 .pick .ensures, back4 .past-after .ensures, back3 .no-readings .ensures)))

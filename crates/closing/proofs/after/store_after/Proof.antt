@@ -17,4 +17,10 @@ store-after-spec =
     (λ c κs. search needs)
     (λ c κs. search needs)
     (λ c. search needs)
-    (λ c. let a = c .before .before .before .before .before .before .before .before .before .before .before .before .before .before .before .args in let p = c .before .before .before .before .before .before .before .before .before .before .before .before .before .before .before .pre in store-is (a .new) (a .d) (now (a .hours)) (now (a .store)) (p .0) (p .1) (p .2) (c .before .before .before .before .before .before .before .before .before .before .keep-hours .ensures) (rw (c .before .before .before .before .before .before .clear-row .ensures)) (c .before .before .clear-row2 .ensures)))
+    (λ c.
+    let back6 = c .before .before .before .before .before .before in let back10 = back6 .before .before .before .before in
+    let back15 = back10 .before .before .before .before .before in
+    let a = back15 .args in
+    let p = back15 .pre in
+    store-is (a .new) (a .d) (now (a .hours)) (now (a .store)) (p .0) (p .1) (p .2) (back10 .keep-hours .ensures) (rw (back6 .clear-row .ensures))
+    (c .before .before .clear-row2 .ensures)))

@@ -19,4 +19,10 @@ as-past-spec =
     (λ c κs. search needs)
     (λ c κs. search needs)
     (λ c. search needs)
-    (λ c. let p = c .before .before .before .before .before .before .before .before .before .before .before .before .before in let a = p .args in past-found _ (now (a .store)) (a .row) (a .past) (a .t) (now (a .hours)) (p .pre .0) (c .before .before .before .before .before .before .before .before .before .clear .ensures) (c .before .before .before .before .copy-past .ensures) (c .sum-first .ensures)))
+    (λ c.
+    let back4 = c .before .before .before .before in let back9 = back4 .before .before .before .before .before in
+    let back13 = back9 .before .before .before .before in
+    let p = back13 in
+    let a = p .args in
+    past-found _ (now (a .store)) (a .row) (a .past) (a .t) (now (a .hours)) (p .pre .0) (back9 .clear .ensures) (back4 .copy-past .ensures)
+    (c .sum-first .ensures)))

@@ -12,4 +12,8 @@ as-read-spec =
     (λ c κs. search needs)
     (λ c κs. search needs)
     (λ c. search needs)
-    (λ c. let p = c .before .before .before .before .before .before .before .before in let a = p .args in read-found _ (now (a .store)) (a .row) (a .t) (now (a .hours)) (p .pre .0) (p .pre .1) (c .before .before .before .before .read-row .ensures) (c .sum-first .ensures)))
+    (λ c.
+    let back4 = c .before .before .before .before in let back8 = back4 .before .before .before .before in
+    let p = back8 in
+    let a = p .args in
+    read-found _ (now (a .store)) (a .row) (a .t) (now (a .hours)) (p .pre .0) (p .pre .1) (back4 .read-row .ensures) (c .sum-first .ensures)))

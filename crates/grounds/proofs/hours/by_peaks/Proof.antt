@@ -12,4 +12,9 @@ by-peaks-spec =
     (tie.spec
     (λ c κs. search needs)
     (λ c. search needs)
-    (λ c. let p = c .before .before .before .before .before .before in let a = p .args in month-found _ (a .volume .0) (length (now (a .marks))) (now (a .hours)) _ (p .pre .0) (p .pre .1) (p .pre .2) (p .pre .3) (c .before .before .peak-rule .ensures)))
+    (λ c.
+    let back6 = c .before .before .before .before .before .before in
+    let p = back6 in
+    let a = p .args in
+    month-found _ (a .volume .0) (length (now (a .marks))) (now (a .hours)) _ (p .pre .0) (p .pre .1) (p .pre .2) (p .pre .3)
+    (c .before .before .peak-rule .ensures)))

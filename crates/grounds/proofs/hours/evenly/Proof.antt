@@ -14,4 +14,8 @@ evenly-spec =
     (λ c. search needs)
     (λ c κs. search needs)
     (λ c. search needs)
-    (λ c. let p = c .before .before .before .before .before .before .before in let a = p .args in even-found _ (a .volume .0) (a .t) (now (a .hours)) (p .pre .0) (p .pre .1) (p .pre .2) (p .pre .3) (c .before .before .share-evenly .ensures)))
+    (λ c.
+    let back7 = c .before .before .before .before .before .before .before in
+    let p = back7 in
+    let a = p .args in
+    even-found _ (a .volume .0) (a .t) (now (a .hours)) (p .pre .0) (p .pre .1) (p .pre .2) (p .pre .3) (c .before .before .share-evenly .ensures)))

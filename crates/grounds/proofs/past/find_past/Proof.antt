@@ -18,5 +18,11 @@ find-past-spec =
     (λ c. let p = c .before .before .before .before .before .before .before in rw (c .in-row .ensures) (found-year _ (p .pre) (c .before .if1 .taken)))
     (λ c. found-none _ (c .before .if1 .left) (c .if2 .taken))
     (λ c κs. search needs)
-    (λ c κs. rw (c .date-of .ensures, latest-date _ (c .before .before .before .before .before .before .before .before .pre) (c .before .if2 .left)) (latest-month _))
-    (λ c. let p = c .before .before .before .before .before .before .before .before .before in rw (c .in-row2 .ensures, c .before .date-of .ensures, latest-date _ (p .pre) (c .before .before .if2 .left)) (found-latest _ (c .before .before .before .if1 .left) (c .before .before .if2 .left))))
+    (λ c κs.
+    let back8 = c .before .before .before .before .before .before .before .before in
+    rw (c .date-of .ensures, latest-date _ (back8 .pre) (c .before .if2 .left)) (latest-month _))
+    (λ c.
+    let back3 = c .before .before .before in let back9 = back3 .before .before .before .before .before .before in
+    let p = back9 in
+    rw (c .in-row2 .ensures, c .before .date-of .ensures, latest-date _ (p .pre) (c .before .before .if2 .left))
+    (found-latest _ (back3 .if1 .left) (c .before .before .if2 .left))))

@@ -13,14 +13,18 @@ at-place-spec =
     (λ c. search needs)
     (λ c κs. search needs)
     (λ c κs.
-    first-fits (c .before .before .before .before .pre) (record { is = c .taken-first3 .ensures }) (record { is = c .before .before .taken-first .ensures }) (omega arith))
+    first-fits (c .before .before .before .before .pre) (record { is = c .taken-first3 .ensures })
+    (record { is = c .before .before .taken-first .ensures }) (omega arith))
     (λ c κs.
-    first-fits (c .before .before .before .before .before .pre) (record { is = c .before .before .taken-first2 .ensures }) (record { is = c .before .before .before .taken-first .ensures }) (omega arith))
+    first-fits (c .before .before .before .before .before .pre) (record { is = c .before .before .taken-first2 .ensures })
+    (record { is = c .before .before .before .taken-first .ensures }) (omega arith))
     (λ c.
     let taken = c .before .before in
     rw (c .portion-of2 .ensures, c .before .portion-of .ensures)
-    (place-up (taken .before .before .before .before .pre) (record { is = taken .before .taken-first2 .ensures }) (record { is = taken .taken-first3 .ensures }) (record { is = taken .before .before .taken-first .ensures })))
+    (place-up (taken .before .before .before .before .pre) (record { is = taken .before .taken-first2 .ensures })
+    (record { is = taken .taken-first3 .ensures }) (record { is = taken .before .before .taken-first .ensures })))
     (λ c.
     let taken = c .before .before in
     rw (c .portion-of2 .ensures, c .before .portion-of .ensures)
-    (place-is (taken .before .before .before .before .pre) (record { is = taken .before .taken-first2 .ensures }) (record { is = taken .taken-first3 .ensures }) (record { is = taken .before .before .taken-first .ensures }))))
+    (place-is (taken .before .before .before .before .pre) (record { is = taken .before .taken-first2 .ensures })
+    (record { is = taken .taken-first3 .ensures }) (record { is = taken .before .before .taken-first .ensures }))))

@@ -1,7 +1,7 @@
 use mathlib.Core.Path.{refl}
-use Rattle.sharing.specs.Shares.{rowFits}
-use Rattle.sharing.proofs.row_fits.Statement.{statement}
-use Rattle.sharing.proofs.row_fits.Tie as tie
+use Rattle.store.specs.Store.{rowFits}
+use Rattle.store.proofs.row_fits.Statement.{statement}
+use Rattle.store.proofs.row_fits.Tie as tie
 
 returns : tie.Need-returns
 unfolding rowFits

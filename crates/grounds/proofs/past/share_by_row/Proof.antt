@@ -2,9 +2,10 @@ use mathlib.Core.Path.{refl, sym, _∙_}
 use native.Mathlib.Omega.{arith}
 use native.Mathlib.Nat.{add-sub-cancel-left}
 use borrow.Author.Needs.{needs}
-use Rattle.sharing.proofs.Rule.{row-fits, shared-and, shared-no}
-use Rattle.sharing.proofs.share_by_row.Statement.{statement}
-use Rattle.sharing.proofs.share_by_row.Tie as tie
+use Rattle.sharing.proofs.Rule.{shared-and, shared-no}
+use Rattle.store.proofs.Laws.{row-fits}
+use Rattle.grounds.proofs.past.share_by_row.Statement.{statement}
+use Rattle.grounds.proofs.past.share_by_row.Tie as tie
 
 pub share-by-row-spec : {M : Type 1} → statement M
 share-by-row-spec =

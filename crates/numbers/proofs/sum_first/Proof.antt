@@ -2,9 +2,9 @@ use mathlib.Core.Path.{_≡_, refl}
 use Prim.Native.Nat.{_≤_, _-_, _*_}
 use native.Mathlib.Omega.{arith}
 use native.Mathlib.Numerals.{add-one}
 use Rattle.numbers.specs.Lists.{sumTo, at}
-use Rattle.sharing.proofs.place.sum_first.Statement.{statement}
-use Rattle.sharing.proofs.place.sum_first.Tie as tie
+use Rattle.numbers.proofs.sum_first.Statement.{statement}
+use Rattle.numbers.proofs.sum_first.Tie as tie
 
 abbrev Inv-loop : tie.InvT-loop
 Inv-loop words n s₀ k₀ s k = (k ≤ n) × (s ≤ 4294967295 * k) × (s ≡ sumTo (at words) k)
