@@ -23,8 +23,9 @@ use store::clear_row;
 
 // This month's billing reading is no longer given: its volume and row 12 become 0.
 fn discard(r: Record, store: &mut [u32]) -> Answer
-    ensures { λ a. ⌜ (a ≡ withoutFigures 0 (withReadings r (withBilling (r .readings) notGiven))) ×
-        (now (store .exit) ≡ writtenIn 12 [] (now (store .entry))) ⌝ }
+    ensures { λ a. ⌜
+        (a ≡ withoutFigures 0 (withReadings r (withBilling (r .readings) notGiven))) × (now (store .exit) ≡ writtenIn 12 [] (now (store .entry)))
+        ⌝ }
 {
     clear_row(store, 12);
     answer_with(0, with_billing(r, not_given()))

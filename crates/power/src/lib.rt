@@ -137,8 +137,9 @@ pub fn list_fits(currents: &[u32], place: usize) -> bool
 // P on basis 2: what one place gets of a power agreed for all points of a list, and 0 where an argument is outside its
 // limits.
 pub fn shared_power(agreed: Kw, currents: &[u32], place: usize) -> Kw
-    ensures { λ r. ⌜ r .0 ≡ powerIn (agreedFits (agreed .0) && listFits (now (currents .entry)) place)
-        (sharedPower (agreed .0) (now (currents .entry)) place) ⌝ }
+    ensures { λ r. ⌜
+        r .0 ≡ powerIn (agreedFits (agreed .0) && listFits (now (currents .entry)) place) (sharedPower (agreed .0) (now (currents .entry)) place)
+        ⌝ }
 {
     if agreed_fits(agreed) & list_fits(currents, place) {
         return share_power(agreed, currents, place);
