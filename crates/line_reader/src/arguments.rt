@@ -151,11 +151,8 @@ pub(crate) fn in_form(s: Line, t: Token) -> Line
         return to_mode(s, LIST);
     }
     if word & (t.value == words::VOLUME) {
-        let call = pick(
-            s.call == calls::BILLING_HOURS,
-            calls::BILLING_VOLUME,
-            calls::CONTROL_VOLUME,
-        );
+        let billing = s.call == calls::BILLING_HOURS;
+        let call = pick(billing, calls::BILLING_VOLUME, calls::CONTROL_VOLUME);
         return set_call(ask(s, names::VOLUME), call);
     }
     fail(s, errors::FORM, t.from)

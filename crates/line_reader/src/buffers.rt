@@ -93,24 +93,23 @@ pub(crate) fn write(
     ensures { λ _. ⌜ now (numbers .exit) ≡ writtenNumbers first before after (now (numbers .entry)) (now (group .entry)) ⌝ }
     ensures { λ _. ⌜ now (group .exit) ≡ writtenGroup before after (now (group .entry)) ⌝ }
 {
-    if after.action == actions::NUMBER {
-        fill_part(numbers, before.count, after.count, after.value);
-        return;
-    }
-    if after.action == actions::TO_GROUP {
-        fill_part(group, before.inner, after.inner, after.value);
-        return;
-    }
-    if actions::GROUP <= after.action {
-        let week = after.action == actions::WEEK;
-        expand_part(
-            numbers,
-            before.count,
-            after.count,
-            group,
-            week,
-            before.inner,
-            first,
-        );
+    let action = after.action;
+    match action {
+        actions::NUMBER => fill_part(numbers, before.count, after.count, after.value),
+        actions::TO_GROUP => fill_part(group, before.inner, after.inner, after.value),
+        _ => {
+            if actions::GROUP <= action {
+                let week = action == actions::WEEK;
+                expand_part(
+                    numbers,
+                    before.count,
+                    after.count,
+                    group,
+                    week,
+                    before.inner,
+                    first,
+                );
+            }
+        }
     }
 }

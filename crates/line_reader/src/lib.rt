@@ -127,41 +127,29 @@ fn step(s: Line, t: Token, hours: u32) -> Line
     if t.kind == LONG {
         return fail(s, errors::LARGE, t.from);
     }
-    if s.mode == LIST {
-        return in_list(s, t);
+    let mode = s.mode;
+    match mode {
+        LIST => in_list(s, t),
+        GROUP => in_group(s, t, hours),
+        COUNTED => in_counted(s, t),
+        DAY => in_day(s, t),
+        _ => step_in_call(s, t),
     }
-    if s.mode == GROUP {
-        return in_group(s, t, hours);
-    }
-    if s.mode == COUNTED {
-        return in_counted(s, t);
-    }
-    if s.mode == DAY {
-        return in_day(s, t);
-    }
-    step_in_call(s, t)
 }
 
 // The same outside lists.
 fn step_in_call(s: Line, t: Token) -> Line
     ensures { λ r. ⌜ r ≡ afterTokenInCall s t ⌝ }
 {
-    if s.mode == CALL {
-        return in_call(s, t);
+    let mode = s.mode;
+    match mode {
+        CALL => in_call(s, t),
+        VALUE => in_value(s, t),
+        MONTH_DASH => in_dash(s, t),
+        ARGUMENT => in_argument(s, t),
+        FORM => in_form(s, t),
+        _ => in_last(s, t),
     }
-    if s.mode == VALUE {
-        return in_value(s, t);
-    }
-    if s.mode == MONTH_DASH {
-        return in_dash(s, t);
-    }
-    if s.mode == ARGUMENT {
-        return in_argument(s, t);
-    }
-    if s.mode == FORM {
-        return in_form(s, t);
-    }
-    in_last(s, t)
 }
 
 // The line behind a token, with what it adds to the list still to be written.

@@ -124,19 +124,18 @@ fn word_in_list(s: Line, t: Token) -> Line
 pub(crate) fn in_list(s: Line, t: Token) -> Line
     ensures { λ r. ⌜ r ≡ inList s t ⌝ }
 {
-    if t.kind == NUMBER {
-        return add_number(s, t, 1);
+    let kind = t.kind;
+    match kind {
+        NUMBER => add_number(s, t, 1),
+        COUNT => add_count(s, t),
+        WORD => word_in_list(s, t),
+        _ => {
+            if (kind == END) & (s.numbers.fresh != 1) {
+                return to_mode(s, DONE);
+            }
+            fail(s, errors::PART, t.from)
+        }
     }
-    if t.kind == COUNT {
-        return add_count(s, t);
-    }
-    if t.kind == WORD {
-        return word_in_list(s, t);
-    }
-    if (t.kind == END) & (s.numbers.fresh != 1) {
-        return to_mode(s, DONE);
-    }
-    fail(s, errors::PART, t.from)
 }
 
 // How many numbers a list has where so many are repeated behind it.
@@ -189,16 +188,17 @@ fn close_group(s: Line, t: Token, hours: u32) -> Line
 pub(crate) fn in_group(s: Line, t: Token, hours: u32) -> Line
     ensures { λ r. ⌜ r ≡ inGroup hours s t ⌝ }
 {
-    if t.kind == NUMBER {
-        return add_number(s, t, 1);
+    let kind = t.kind;
+    match kind {
+        NUMBER => add_number(s, t, 1),
+        COUNT => add_count(s, t),
+        _ => {
+            if (kind == RIGHT) & (s.numbers.fresh != 1) {
+                return close_group(s, t, hours);
+            }
+            fail(s, errors::ITEM, t.from)
+        }
     }
-    if t.kind == COUNT {
-        return add_count(s, t);
-    }
-    if (t.kind == RIGHT) & (s.numbers.fresh != 1) {
-        return close_group(s, t, hours);
-    }
-    fail(s, errors::ITEM, t.from)
 }
 
 // The list with parentheses opened.
@@ -230,18 +230,9 @@ pub(crate) fn in_day(s: Line, t: Token) -> Line
 {
     let n = s.numbers;
     if t.kind == LEFT {
-        return set_list(
-            s,
-            GROUP,
-            opened(
-                n,
-                pick(
-                    n.depth == depths::FIRST_DAY,
-                    depths::SECOND_DAY,
-                    depths::FIRST_DAY,
-                ),
-            ),
-        );
+        let second = n.depth == depths::FIRST_DAY;
+        let depth = pick(second, depths::SECOND_DAY, depths::FIRST_DAY);
+        return set_list(s, GROUP, opened(n, depth));
     }
     fail(s, errors::DAY, t.from)
 }
