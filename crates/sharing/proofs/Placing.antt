@@ -26,7 +26,7 @@ module _ {v s : ℕ} {ws : List ℕ} {place : ℕ} (p : Placed v s ws place) whe
   unfolding weight
   first-is {h} f = f .is ∙ rw (p .sum, taken-every (length ws) (at ws) h)
 
-  pub first-divides : {h a whole : ℕ} → First s ws h a → First s ws (length ws) whole → h ≤ length ws → QuotientFits v a whole
+  pub first-fits : {h a whole : ℕ} → First s ws h a → First s ws (length ws) whole → h ≤ length ws → QuotientFits v a whole
   unfolding weight
   first-fits {h} {a} {whole} f g l = record {
     some = rw (first-is g) (taken-some (length ws) every (at ws) (omega (arith, p .inside)));
