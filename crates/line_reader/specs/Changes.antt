@@ -6,7 +6,7 @@ use lib.Dec.{ltb}
 use lib.ListN.{set}
 use Rattle.line_reader.specs.declared.Numbers.{Numbers}
 use Rattle.line_reader.specs.declared.Line.{Line}
-use Rattle.line_reader.specs.Codes.{valueMode, failedMode, noAction}
+use Rattle.line_reader.specs.Codes.{valueMode, failedMode, noKey, noAction}
 
 abbrev pub withMode : ℕ → Line → Line
 withMode m s =
@@ -29,7 +29,7 @@ withCall call s =
 -- the value of one of the 15 arguments is known
 abbrev pub withValue : ℕ → ℕ → Line → Line
 withValue key v s =
-    let values : List ℕ = cond (ltb key 15) (set (s .values) key v) (s .values) in
+    let values : List ℕ = cond (ltb key noKey) (set (s .values) key v) (s .values) in
     record { mode = s .mode; at = s .at; call = s .call; error = s .error; place = s .place; key = s .key; values = values; numbers = s .numbers }
 
 abbrev pub withNumbers : ℕ → Numbers → Line → Line

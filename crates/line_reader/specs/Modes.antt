@@ -55,7 +55,7 @@ unfoldable pub inDash : Line → Token → Line
 inDash s t = cond (eqb (t .kind) dashKind) (asking monthKey s) (withError dashError (t .from) s)
 
 unfoldable pub valueIn : ℕ → Line → ℕ
-valueIn key s = cond (ltb key 15) (getD (s .values) key 0) absent
+valueIn key s = cond (ltb key noKey) (getD (s .values) key 0) absent
 
 -- each argument at most once; behind `currents` a list
 unfoldable pub namedAs : ℕ → Line → Token → Line
