@@ -8,6 +8,9 @@ use Rattle.calendar.specs.Calendar.{isMonth}
 use Rattle.contract.specs.Contract.{noCable}
 use Rattle.rules.specs.Calls.{billingHours, controlHours, billingVolume, controlVolume, neighbour, failure, admission, denial, permission, closing}
 use Rattle.line_reader.specs.declared.Line.{Line}
+use Rattle.line_reader.specs.Codes.{openCall, billingHoursCall, billingVolumeCall, controlHoursCall, controlVolumeCall, neighbourCall, failureCall}
+use Rattle.line_reader.specs.Codes.{admissionCall, denialCall, permissionCall, closeCall, yearKey, monthKey, billingKey, controlKey, basisKey}
+use Rattle.line_reader.specs.Codes.{powerKey, placeKey, amperesKey, voltsKey, cosineKey, phasesKey, currentsKey, sourceKey, reasonKey, volumeKey}
 use Rattle.line_reader.specs.Changes.{withCall, withValue}
 use Rattle.line_reader.specs.Modes.{valueIn}
 use Rattle.line_reader.specs.Lines.{freshLine}
@@ -24,7 +27,10 @@ on y m = record { year = y; month = m }
 -- an opening with every argument its own value
 abbrev full : Line
 full =
-    withValue 0 2023 (withValue 1 2 (withValue 2 11 (withValue 3 12 (withValue 4 13 (withValue 5 14 (withValue 6 15 (withValue 7 16 (withValue 8 17 (withValue 9 18 (withValue 10 19 (withValue 11 0 (withCall 1 freshLine))))))))))))
+    withValue yearKey 2023 (withValue monthKey 2
+    (withValue billingKey 11 (withValue controlKey 12 (withValue basisKey 13 (withValue powerKey 14 (withValue placeKey 15
+    (withValue amperesKey 16 (withValue voltsKey 17 (withValue cosineKey 18 (withValue phasesKey 19
+    (withValue currentsKey 0 (withCall openCall freshLine))))))))))))
 
 -- each argument in its place, the list as the currents, and 0 for what is not given
 openings :
@@ -36,14 +42,14 @@ openings :
       currents = 5 ∷ 6 ∷ [];
       place = 15;
     })
-    × (openingBy (withValue 0 2023 (withValue 1 13 (withCall 1 freshLine))) []
+    × (openingBy (withValue yearKey 2023 (withValue monthKey 13 (withCall openCall freshLine))) []
     ≡ record {
       asked = record { billing = 0; control = 0; basis = 0; power = record { 0 = 0 }; cable = noCable };
       date = on 2023 13;
       currents = [];
       place = 0;
     })
-    × (openingBy (withValue 5 4294967295 (withValue 6 4294967295 freshLine)) (7 ∷ [])
+    × (openingBy (withValue powerKey 4294967295 (withValue placeKey 4294967295 freshLine)) (7 ∷ [])
     ≡ record {
       asked = record { billing = 0; control = 0; basis = 0; power = record { 0 = 4294967295 }; cable = noCable };
       date = on 0 0;
@@ -54,7 +60,8 @@ unfolding making
 openings = (refl, refl, refl)
 
 abbrev line : ℕ → Line
-line call = withCall call (withValue 12 2 (withValue 13 3 (withValue 14 999999999999999999 freshLine)))
+line call =
+    withCall call (withValue sourceKey 2 (withValue reasonKey 3 (withValue volumeKey 999999999999999999 freshLine)))
 
 abbrev list : List ℕ
 list = 5 ∷ 300 ∷ []
@@ -63,20 +70,20 @@ abbrev buffer : List ℕ
 buffer = 8 ∷ 9 ∷ []
 
 calls :
-    (callBy (line 2) list buffer ≡ billingHours list)
-    × (callBy (line 3) list buffer ≡ billingVolume 999999999999999999)
-    × (callBy (line 4) list buffer ≡ controlHours list)
-    × (callBy (line 5) list buffer ≡ controlVolume 999999999999999999)
-    × (callBy (line 6) list buffer ≡ neighbour 2 999999999999999999)
-    × (callBy (line 7) list buffer ≡ failure 3)
-    × (callBy (line 8) list buffer ≡ admission)
-    × (callBy (line 9) list buffer ≡ denial)
-    × (callBy (line 10) list buffer ≡ permission)
-    × (callBy (line 11) (0 ∷ 1 ∷ 2 ∷ 3 ∷ 255 ∷ []) buffer ≡ closing (0 ∷ 1 ∷ 2 ∷ 3 ∷ 255 ∷ []) buffer)
-    × (callBy (line 11) [] buffer ≡ closing [] buffer)
-    × (callBy (withCall 3 freshLine) list buffer ≡ billingVolume 0)
-    × (callBy (withCall 6 freshLine) list buffer ≡ neighbour 0 0)
-    × (callBy (withCall 7 freshLine) list buffer ≡ failure 0)
+    (callBy (line billingHoursCall) list buffer ≡ billingHours list)
+    × (callBy (line billingVolumeCall) list buffer ≡ billingVolume 999999999999999999)
+    × (callBy (line controlHoursCall) list buffer ≡ controlHours list)
+    × (callBy (line controlVolumeCall) list buffer ≡ controlVolume 999999999999999999)
+    × (callBy (line neighbourCall) list buffer ≡ neighbour 2 999999999999999999)
+    × (callBy (line failureCall) list buffer ≡ failure 3)
+    × (callBy (line admissionCall) list buffer ≡ admission)
+    × (callBy (line denialCall) list buffer ≡ denial)
+    × (callBy (line permissionCall) list buffer ≡ permission)
+    × (callBy (line closeCall) (0 ∷ 1 ∷ 2 ∷ 3 ∷ 255 ∷ []) buffer ≡ closing (0 ∷ 1 ∷ 2 ∷ 3 ∷ 255 ∷ []) buffer)
+    × (callBy (line closeCall) [] buffer ≡ closing [] buffer)
+    × (callBy (withCall billingVolumeCall freshLine) list buffer ≡ billingVolume 0)
+    × (callBy (withCall neighbourCall freshLine) list buffer ≡ neighbour 0 0)
+    × (callBy (withCall failureCall freshLine) list buffer ≡ failure 0)
 unfolding making
 calls = (refl, refl, refl, refl, refl, refl, refl, refl, refl, refl, refl, refl, refl, refl)
 

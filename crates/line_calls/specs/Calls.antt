@@ -10,10 +10,14 @@ use Rattle.calendar.specs.declared.Date.{Date}
 use Rattle.power.specs.declared.Cable.{Cable}
 use Rattle.contract.specs.declared.Contract.{Contract}
 use Rattle.record.specs.declared.Record.{Record}
-use Rattle.rules.specs.Calls.{Opening, Call, billingHours, controlHours, billingVolume, controlVolume, neighbour, failure, admission, denial, permission, closing, isClosing}
+use Rattle.rules.specs.Calls.{Opening, Call, billingHours, controlHours, billingVolume, controlVolume, neighbour, failure, admission}
+use Rattle.rules.specs.Calls.{denial, permission, closing, isClosing}
 use Rattle.model.specs.declared.Answer.{Answer}
 use Rattle.model.specs.Model.{state, Does}
 use Rattle.line_reader.specs.declared.Line.{Line}
+use Rattle.line_reader.specs.Codes.{billingHoursCall, billingVolumeCall, controlHoursCall, controlVolumeCall, neighbourCall, failureCall}
+use Rattle.line_reader.specs.Codes.{admissionCall, denialCall, permissionCall, yearKey, monthKey, billingKey, controlKey, basisKey, powerKey}
+use Rattle.line_reader.specs.Codes.{placeKey, amperesKey, voltsKey, cosineKey, phasesKey, sourceKey, reasonKey, volumeKey}
 use Rattle.line_reader.specs.Names.{absent}
 use Rattle.line_reader.specs.Modes.{valueIn}
 
@@ -26,17 +30,24 @@ fieldOf key line = argumentOf key line % 4294967296
 
 -- AN OPENING
 unfoldable pub cableBy : Line → Cable
-cableBy line = record { amperes = fieldOf 7 line; volts = fieldOf 8 line; cosine = fieldOf 9 line; phases = fieldOf 10 line }
+cableBy line =
+    record { amperes = fieldOf amperesKey line; volts = fieldOf voltsKey line; cosine = fieldOf cosineKey line; phases = fieldOf phasesKey line }
 
 unfoldable pub askedBy : Line → Contract
 askedBy line =
-    record { billing = fieldOf 2 line; control = fieldOf 3 line; basis = fieldOf 4 line; power = record { 0 = fieldOf 5 line }; cable = cableBy line }
+    record {
+      billing = fieldOf billingKey line;
+      control = fieldOf controlKey line;
+      basis = fieldOf basisKey line;
+      power = record { 0 = fieldOf powerKey line };
+      cable = cableBy line;
+    }
 
 unfoldable pub dateBy : Line → Date
-dateBy line = record { year = fieldOf 0 line; month = fieldOf 1 line }
+dateBy line = record { year = fieldOf yearKey line; month = fieldOf monthKey line }
 
 unfoldable pub openingBy : Line → List ℕ → Opening
-openingBy line list = record { asked = askedBy line; date = dateBy line; currents = list; place = argumentOf 6 line }
+openingBy line list = record { asked = askedBy line; date = dateBy line; currents = list; place = argumentOf placeKey line }
 
 -- the marks of a closing: a byte for each number of the list, up to 4,096
 abbrev pub markAt : List ℕ → ℕ → ℕ
@@ -49,19 +60,19 @@ pub record Copied (list before after : List ℕ) (n : ℕ) : Type 0 where
   pub size : n ≡ min (length list) (length before)
   pub filled : Filled (markAt list) before after n
 
--- ANY OTHER CALL, by its number: 2 to 5 readings, 6 neighbour, 7 failure, 8 admission, 9 denial, 10 permission, else a closing
+-- ANY OTHER CALL; what is none of the others is a closing
 unfoldable pub callBy : Line → List ℕ → List ℕ → Call
 callBy line list buffer =
-    let volume : ℕ = argumentOf 14 line in
-    cond (eqb (line .call) 2) (billingHours list)
-    (cond (eqb (line .call) 3) (billingVolume volume)
-    (cond (eqb (line .call) 4) (controlHours list)
-    (cond (eqb (line .call) 5) (controlVolume volume)
-    (cond (eqb (line .call) 6) (neighbour (fieldOf 12 line) volume)
-    (cond (eqb (line .call) 7) (failure (fieldOf 13 line))
-    (cond (eqb (line .call) 8) admission
-    (cond (eqb (line .call) 9) denial
-    (cond (eqb (line .call) 10) permission (closing (marksFrom list) buffer)))))))))
+    let volume : ℕ = argumentOf volumeKey line in
+    cond (eqb (line .call) billingHoursCall) (billingHours list)
+    (cond (eqb (line .call) billingVolumeCall) (billingVolume volume)
+    (cond (eqb (line .call) controlHoursCall) (controlHours list)
+    (cond (eqb (line .call) controlVolumeCall) (controlVolume volume)
+    (cond (eqb (line .call) neighbourCall) (neighbour (fieldOf sourceKey line) volume)
+    (cond (eqb (line .call) failureCall) (failure (fieldOf reasonKey line))
+    (cond (eqb (line .call) admissionCall) admission
+    (cond (eqb (line .call) denialCall) denial
+    (cond (eqb (line .call) permissionCall) permission (closing (marksFrom list) buffer)))))))))
 
 -- WHAT A LINE DOES to a point: that call, and no call but a closing touches the hour buffer
 pub record Makes (line : Line) (list : List ℕ) (r : Record) (store buffer : List ℕ) (a : Answer) (store′ buffer′ : List ℕ) : Type 0 where

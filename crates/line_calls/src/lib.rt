@@ -17,6 +17,7 @@ use events::fail;
 use events::permit;
 use line_reader::ABSENT;
 use line_reader::Line;
+use line_reader::calls;
 use line_reader::names;
 use line_reader::value_of;
 use model::Answer;
@@ -148,32 +149,17 @@ pub fn make_call(
         ⌝ }
 {
     let volume = Kwh(argument(line, names::VOLUME));
-    if line.call == 2 {
-        return read_billing_hours(r, store, list);
+    let call = line.call;
+    match call {
+        calls::BILLING_HOURS => read_billing_hours(r, store, list),
+        calls::BILLING_VOLUME => read_billing_volume(r, store, volume),
+        calls::CONTROL_HOURS => read_control_hours(r, store, list),
+        calls::CONTROL_VOLUME => read_control_volume(r, store, volume),
+        calls::NEIGHBOUR => read_neighbour(r, store, field(line, names::SOURCE), volume),
+        calls::FAILURE => fail(r, store, field(line, names::REASON)),
+        calls::ADMISSION => admit(r, store),
+        calls::DENIAL => deny(r, store),
+        calls::PERMISSION => permit(r, store),
+        _ => close_by(list, r, store, hours),
     }
-    if line.call == 3 {
-        return read_billing_volume(r, store, volume);
-    }
-    if line.call == 4 {
-        return read_control_hours(r, store, list);
-    }
-    if line.call == 5 {
-        return read_control_volume(r, store, volume);
-    }
-    if line.call == 6 {
-        return read_neighbour(r, store, field(line, names::SOURCE), volume);
-    }
-    if line.call == 7 {
-        return fail(r, store, field(line, names::REASON));
-    }
-    if line.call == 8 {
-        return admit(r, store);
-    }
-    if line.call == 9 {
-        return deny(r, store);
-    }
-    if line.call == 10 {
-        return permit(r, store);
-    }
-    close_by(list, r, store, hours)
 }

@@ -10,6 +10,7 @@ use Rattle.model.specs.declared.Answer.{Answer}
 use Rattle.model.specs.Model.{State, state, answer, leaves, Does}
 use Rattle.model.specs.Opening.{openAnswer, openLeaves, Opens}
 use Rattle.line_reader.specs.declared.Line.{Line}
+use Rattle.line_reader.specs.Codes.{openCall, closeCall}
 use Rattle.line_calls.specs.Calls.{callBy, Makes}
 
 does-state : {s : State} {c : Call} {a : Answer} {store buffer : List ℕ} → Does s c a store buffer → state (a .after) store ≡ leaves s c
@@ -26,5 +27,5 @@ unfolding openAnswer
 opens-state d = λ i. record { point = ap (λ (x : Answer). x .after) (d .answered) i; store = d .left i }
 
 -- a closing is no opening
-pub no-opening : (n : ℕ) → n ≡ 11 → eqb n 1 ≡ false
+pub no-opening : (n : ℕ) → n ≡ closeCall → eqb n openCall ≡ false
 no-opening n e = rw e

@@ -10,6 +10,8 @@ use line_calls::no_marks;
 use line_calls::open_by;
 use line_calls::week::first_weekday;
 use line_reader::Line;
+use line_reader::calls;
+use line_reader::errors;
 use line_reader::read_line;
 use model::Answer;
 use numbers::least;
@@ -122,7 +124,7 @@ fn put_closing(
 ) -> Progress
     ensures { λ r. ⌜ r .record ≡ a .after ⌝ }
 {
-    let at = put_answer(out, p.at, o.tab, p.line, 11, a.refusal);
+    let at = put_answer(out, p.at, o.tab, p.line, calls::CLOSE, a.refusal);
     let mut r = answered(p, a);
     r.at = at;
     if a.refusal != 0 {
@@ -183,7 +185,7 @@ fn play_other(
 fn answer_of(read: Line, list: &[u32], r: Record, store: &mut [u32]) -> Answer
     ensures { λ a. ⌜ state (a .after) (now (store .exit)) ≡ callLeaves read (now (list .entry)) (state r (now (store .entry))) ⌝ }
 {
-    if read.call == 1 {
+    if read.call == calls::OPEN {
         return open_by(read, list, store);
     }
     let mut hours = hour_room();
@@ -201,7 +203,7 @@ fn play_call(
 ) -> Progress
     ensures { λ r. ⌜ state (r .record) (now (store .exit)) ≡ callLeaves read (now (list .entry)) (state (p .record) (now (store .entry))) ⌝ }
 {
-    if read.call == 11 {
+    if read.call == calls::CLOSE {
         return play_closing(read, list, o, p, store, out);
     }
     play_other(read, list, o, p, store, out)
@@ -218,11 +220,11 @@ fn play_read(
 ) -> Progress
     ensures { λ r. ⌜ state (r .record) (now (store .exit)) ≡ readLeaves read (now (numbers .entry)) (state (p .record) (now (store .entry))) ⌝ }
 {
-    if read.error != 0 {
+    if read.error != errors::NONE {
         let column = least(read.place as u64, 999999) + 1;
         return bad_line(p, o, out, column, read.error);
     }
-    if read.call == 0 {
+    if read.call == calls::NONE {
         return p;
     }
     let n = least(wide(read.numbers.count), numbers.len() as u64) as usize;

@@ -6,6 +6,7 @@ use lib.Dec.{eqb, leb}
 use lib.ListN.{length, take, drop}
 use Rattle.numbers.specs.Lists.{tab, at}
 use Rattle.line_reader.specs.declared.Numbers.{Numbers}
+use Rattle.line_reader.specs.Codes.{addNumber, addToGroup, addGroup, addWeek}
 
 -- the words from one place to another made f's values, where there are such places
 unfoldable pub part : ℕ → ℕ → (ℕ → ℕ) → List ℕ → List ℕ
@@ -16,18 +17,19 @@ part from to f l =
 abbrev pub restDay : ℕ → ℕ → Bool
 restDay first k = leb 5 ((first % 7 + k % 7) % 7)
 
--- WHERE NUMBER k COMES FROM: of a week hour k of the month from the hour of its day, the second day's on a rest day; else the numbers between parentheses round and round
+-- WHERE NUMBER k COMES FROM: of a week hour k of the month from the hour of its day, the second day's on a rest day; else the numbers
+-- between parentheses round and round
 unfoldable pub placeFor : Bool → ℕ → ℕ → ℕ → ℕ
 placeFor week inner first k =
     cond week (cond (restDay first (k / 24)) (24 + k % 24) (k % 24)) (cond (eqb inner 0) 0 (k % inner))
 
 unfoldable pub writtenNumbers : ℕ → Numbers → Numbers → List ℕ → List ℕ → List ℕ
 writtenNumbers first before after numbers group =
-    cond (eqb (after .action) 1) (part (before .count) (after .count) (λ k. after .value) numbers)
-    (cond (eqb (after .action) 2) numbers
-    (cond (leb 3 (after .action))
-    (part (before .count) (after .count) (λ k. at group (placeFor (eqb (after .action) 4) (before .inner) first k)) numbers) numbers))
+    cond (eqb (after .action) addNumber) (part (before .count) (after .count) (λ k. after .value) numbers)
+    (cond (eqb (after .action) addToGroup) numbers
+    (cond (leb addGroup (after .action))
+    (part (before .count) (after .count) (λ k. at group (placeFor (eqb (after .action) addWeek) (before .inner) first k)) numbers) numbers))
 
 unfoldable pub writtenGroup : Numbers → Numbers → List ℕ → List ℕ
 writtenGroup before after group =
-    cond (eqb (after .action) 2) (part (before .inner) (after .inner) (λ k. after .value) group) group
+    cond (eqb (after .action) addToGroup) (part (before .inner) (after .inner) (λ k. after .value) group) group

@@ -1,3 +1,4 @@
+pub mod Codes
 pub mod Changes
 pub mod Names
 pub mod Modes

@@ -7,8 +7,11 @@ use mathlib.Core.List.{List}
 use lib.Dec.{eqb, leb}
 use lib.ListN.{length, replicate}
 use Rattle.line_tokens.specs.declared.Token.{Token}
+use Rattle.line_tokens.specs.Kinds.{foreignKind, longKind}
 use Rattle.line_tokens.specs.Tokens.{tokenAt}
 use Rattle.line_reader.specs.declared.Line.{Line}
+use Rattle.line_reader.specs.Codes.{callMode, valueMode, dashMode, argumentMode, formMode, listMode, groupMode, countedMode, dayMode}
+use Rattle.line_reader.specs.Codes.{readMode, failedMode, noCall, yearKey, noError, foreignError, largeError, outside, noAction}
 use Rattle.line_reader.specs.Changes.{withError, withNumbers, movedTo, withoutAction}
 use Rattle.line_reader.specs.Names.{absent}
 use Rattle.line_reader.specs.Modes.{inCall, inValue, inDash, inArgument, inForm, inList, inGroup, inCounted, inDay, inLast}
@@ -18,35 +21,35 @@ use Rattle.line_reader.specs.Buffers.{writtenNumbers, writtenGroup}
 abbrev pub freshLine : Line
 freshLine =
     record {
-      mode = 0;
+      mode = callMode;
       at = 0;
-      call = 0;
-      error = 0;
+      call = noCall;
+      error = noError;
       place = 0;
-      key = 0;
+      key = yearKey;
       values = replicate 15 absent;
       numbers =
-          record { limit = 4294967295; count = 0; inner = 0; times = 0; repeat = 0; depth = 0; fresh = 1; action = 0; value = 0 };
+          record { limit = 4294967295; count = 0; inner = 0; times = 0; repeat = 0; depth = outside; fresh = 1; action = noAction; value = 0 };
     }
 
 -- what a token does, by what is expected outside lists
 unfoldable pub afterTokenInCall : Line → Token → Line
 afterTokenInCall s t =
-    cond (eqb (s .mode) 0) (inCall s t)
-    (cond (eqb (s .mode) 1) (inValue s t)
-    (cond (eqb (s .mode) 2) (inDash s t)
-    (cond (eqb (s .mode) 3) (inArgument s t)
-    (cond (eqb (s .mode) 4) (inForm s t) (inLast s t)))))
+    cond (eqb (s .mode) callMode) (inCall s t)
+    (cond (eqb (s .mode) valueMode) (inValue s t)
+    (cond (eqb (s .mode) dashMode) (inDash s t)
+    (cond (eqb (s .mode) argumentMode) (inArgument s t)
+    (cond (eqb (s .mode) formMode) (inForm s t) (inLast s t)))))
 
 -- a foreign byte and a number of too many digits go before all else
 unfoldable pub afterToken : ℕ → Line → Token → Line
 afterToken hours s t =
-    cond (eqb (t .kind) 8) (withError 2 (t .from) s)
-    (cond (eqb (t .kind) 10) (withError 13 (t .from) s)
-    (cond (eqb (s .mode) 5) (inList s t)
-    (cond (eqb (s .mode) 6) (inGroup hours s t)
-    (cond (eqb (s .mode) 7) (inCounted s t)
-    (cond (eqb (s .mode) 8) (inDay s t) (afterTokenInCall s t))))))
+    cond (eqb (t .kind) foreignKind) (withError foreignError (t .from) s)
+    (cond (eqb (t .kind) longKind) (withError largeError (t .from) s)
+    (cond (eqb (s .mode) listMode) (inList s t)
+    (cond (eqb (s .mode) groupMode) (inGroup hours s t)
+    (cond (eqb (s .mode) countedMode) (inCounted s t)
+    (cond (eqb (s .mode) dayMode) (inDay s t) (afterTokenInCall s t))))))
 
 -- the next token of the line
 unfoldable pub nextToken : ℕ → List ℕ → Line → Line
@@ -66,7 +69,7 @@ lineRead s numbers group = record { line = s; numbers = numbers; group = group }
 unfoldable pub readToken : ℕ → ℕ → List ℕ → LineRead → LineRead
 readToken hours first line r =
     let s : Line = nextToken hours line (r .line) in
-    cond (leb 10 (r .line .mode)) r
+    cond (leb readMode (r .line .mode)) r
     (lineRead s (writtenNumbers first (r .line .numbers) (s .numbers) (r .numbers) (r .group)) (writtenGroup (r .line .numbers) (s .numbers) (r .group)))
 
 unfoldable pub readTokens : ℕ → ℕ → ℕ → List ℕ → LineRead → LineRead
@@ -80,4 +83,4 @@ readLine hours first line numbers group =
 
 -- a line that is read has no error, and one that failed has one
 abbrev pub Ended : Line → Type 0
-Ended s = ((s .mode ≡ 10) × (s .error ≡ 0)) ⊎ ((s .mode ≡ 11) × (s .error ≢ 0))
+Ended s = ((s .mode ≡ readMode) × (s .error ≡ noError)) ⊎ ((s .mode ≡ failedMode) × (s .error ≢ noError))

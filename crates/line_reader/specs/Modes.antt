@@ -1,77 +1,87 @@
--- What a token does, by what is expected (docs/HISTORY-FILE.md). Kinds of tokens: 1 number, 2 word, 3 end, 4 (, 5 ), 6 -, 9 count.
--- Modes: 0 a call, 1 the value of an argument, 2 the - of a month, 3 an argument, 4 hours or volume, 5 a part of a list, 6 an item between
--- parentheses, 7 what a count repeats, 8 the parenthesis of a day, 9 the end; 10 the line is read, 11 it failed.
+-- What a token does, by what is expected (docs/HISTORY-FILE.md).
 use Prim.Native.Nat.{ℕ, _+_, _*_, _%_, min}
 use mathlib.Core.Bool.{Bool, not, cond, _&&_, _||_}
 use lib.Dec.{eqb, leb, ltb}
 use lib.ListN.{getD}
 use Rattle.line_tokens.specs.declared.Token.{Token}
+use Rattle.line_tokens.specs.Kinds.{numberKind, wordKind, endKind, leftKind, rightKind, dashKind, countKind}
 use Rattle.line_reader.specs.declared.Numbers.{Numbers}
 use Rattle.line_reader.specs.declared.Line.{Line}
+use Rattle.line_reader.specs.Codes.{valueMode, dashMode, argumentMode, formMode, listMode, groupMode, countedMode, dayMode, lastMode}
+use Rattle.line_reader.specs.Codes.{readMode, noCall, openCall, billingHoursCall, billingVolumeCall, controlHoursCall, controlVolumeCall}
+use Rattle.line_reader.specs.Codes.{neighbourCall, failureCall, admissionCall, permissionCall, closeCall, yearKey, monthKey, phasesKey}
+use Rattle.line_reader.specs.Codes.{currentsKey, sourceKey, reasonKey, volumeKey, noKey, callError, dashError, argumentError, twiceError}
+use Rattle.line_reader.specs.Codes.{formError, largeError, partError, dayError, itemError, dayLengthError, listLengthError, countedError}
+use Rattle.line_reader.specs.Codes.{lastError, outside, inRepetition, inFirstDay, inSecondDay, addNumber, addToGroup, addGroup, addWeek}
 use Rattle.line_reader.specs.Changes.{withMode, withError, asking, withCall, withValue, withNumbers, withLimit, withTimes}
 use Rattle.line_reader.specs.Names.{isWord, callOf, keyOf, absent, wordValue, expectedFor, largestFor}
 
 -- the token is a word, with a value of its own, else another
 abbrev pub ifWord : Token → ℕ → ℕ → ℕ
-ifWord t x y = cond (eqb (t .kind) 2) x y
+ifWord t x y = cond (eqb (t .kind) wordKind) x y
 
 -- THE CALL
--- behind the call's word: the year of an opening, the source of a neighbour reading, the reason of a failure; hours or volume; nothing; the marks, of at most 255
+-- behind the call's word: the year of an opening, the source of a neighbour reading, the reason of a failure; hours or volume; nothing;
+-- the marks, of at most 255
 unfoldable pub begun : ℕ → Line → Line
 begun call s =
     withNumbers
-    (cond (eqb call 11) 5 (cond (eqb call 2 || eqb call 4) 4 (cond (leb 8 call && leb call 10) 9 1)))
-    (withLimit (cond (eqb call 11) 255 4294967295) (s .numbers))
-    (withCall call (asking (cond (eqb call 6) 12 (cond (eqb call 7) 13 0)) s))
+    (cond (eqb call closeCall) listMode
+    (cond (eqb call billingHoursCall || eqb call controlHoursCall) formMode
+    (cond (leb admissionCall call && leb call permissionCall) lastMode valueMode)))
+    (withLimit (cond (eqb call closeCall) 255 4294967295) (s .numbers))
+    (withCall call (asking (cond (eqb call neighbourCall) sourceKey (cond (eqb call failureCall) reasonKey yearKey)) s))
 
 unfoldable pub inCall : Line → Token → Line
 inCall s t =
-    let call : ℕ = ifWord t (callOf (t .value)) 0 in
-    cond (eqb (t .kind) 3) (withMode 10 s) (cond (eqb call 0) (withError 3 (t .from) s) (begun call s))
+    let call : ℕ = ifWord t (callOf (t .value)) noCall in
+    cond (eqb (t .kind) endKind) (withMode readMode s) (cond (eqb call noCall) (withError callError (t .from) s) (begun call s))
 
 -- ARGUMENTS
 -- behind a value: the - of a year, the volume of a neighbour reading, the next argument of an opening, or nothing
 unfoldable pub valueTaken : ℕ → Line → Line
 valueTaken v s =
-    withMode (cond (eqb (s .key) 0) 2 (cond (eqb (s .key) 12) 1 (cond (leb (s .key) 10) 3 9)))
-    (asking (cond (eqb (s .key) 12) 14 (s .key)) (withValue (s .key) v s))
+    withMode (cond (eqb (s .key) yearKey) dashMode (cond (eqb (s .key) sourceKey) valueMode (cond (leb (s .key) phasesKey) argumentMode lastMode)))
+    (asking (cond (eqb (s .key) sourceKey) volumeKey (s .key)) (withValue (s .key) v s))
 
 unfoldable pub inValue : Line → Token → Line
 inValue s t =
     let v : ℕ = ifWord t (wordValue (s .key) (t .value)) absent in
-    cond (eqb (t .kind) 1)
-    (cond (ltb (largestFor (s .key)) (t .value)) (withError 13 (t .from) s) (valueTaken (t .value) s))
+    cond (eqb (t .kind) numberKind)
+    (cond (ltb (largestFor (s .key)) (t .value)) (withError largeError (t .from) s) (valueTaken (t .value) s))
     (cond (eqb v absent) (withError (expectedFor (s .key)) (t .from) s) (valueTaken v s))
 
 unfoldable pub inDash : Line → Token → Line
-inDash s t = cond (eqb (t .kind) 6) (asking 1 s) (withError 5 (t .from) s)
+inDash s t = cond (eqb (t .kind) dashKind) (asking monthKey s) (withError dashError (t .from) s)
 
 unfoldable pub valueIn : ℕ → Line → ℕ
-valueIn key s = cond (ltb key 15) (getD (s .values) key 0) absent
+valueIn key s = cond (ltb key noKey) (getD (s .values) key 0) absent
 
 -- each argument at most once; behind `currents` a list
 unfoldable pub namedAs : ℕ → Line → Token → Line
 namedAs key s t =
-    cond (eqb key 15) (withError 6 (t .from) s)
-    (cond (not (eqb (valueIn key s) absent)) (withError 7 (t .from) s)
-    (cond (eqb key 11) (withMode 5 (withValue key 0 s)) (asking key s)))
+    cond (eqb key noKey) (withError argumentError (t .from) s)
+    (cond (not (eqb (valueIn key s) absent)) (withError twiceError (t .from) s)
+    (cond (eqb key currentsKey) (withMode listMode (withValue key 0 s)) (asking key s)))
 
 unfoldable pub inArgument : Line → Token → Line
-inArgument s t = cond (eqb (t .kind) 3) (withMode 10 s) (namedAs (ifWord t (keyOf (t .value)) 15) s t)
+inArgument s t = cond (eqb (t .kind) endKind) (withMode readMode s) (namedAs (ifWord t (keyOf (t .value)) noKey) s t)
 
 unfoldable pub inForm : Line → Token → Line
 inForm s t =
-    let word : Bool = eqb (t .kind) 2 in
-    cond (word && isWord (t .value) "hours") (withMode 5 s)
-    (cond (word && isWord (t .value) "volume") (withCall (cond (eqb (s .call) 2) 3 5) (asking 14 s)) (withError 10 (t .from) s))
+    let word : Bool = eqb (t .kind) wordKind in
+    cond (word && isWord (t .value) "hours") (withMode listMode s)
+    (cond (word && isWord (t .value) "volume")
+    (withCall (cond (eqb (s .call) billingHoursCall) billingVolumeCall controlVolumeCall) (asking volumeKey s))
+    (withError formError (t .from) s))
 
 unfoldable pub inLast : Line → Token → Line
-inLast s t = cond (eqb (t .kind) 3) (withMode 10 s) (withError 20 (t .from) s)
+inLast s t = cond (eqb (t .kind) endKind) (withMode readMode s) (withError lastError (t .from) s)
 
--- LISTS. Actions: 1 a number so many times, 2 the same between parentheses, 3 the numbers between parentheses so many times, 4 a month by its days of the week
+-- LISTS
 unfoldable pub addedTo : Numbers → ℕ → ℕ → Numbers
 addedTo n times v =
-    let inside : Bool = ltb 0 (n .depth) in
+    let inside : Bool = ltb outside (n .depth) in
     record {
       limit = n .limit;
       count = cond inside (n .count) (min (n .count + times) 4096);
@@ -80,7 +90,7 @@ addedTo n times v =
       repeat = n .repeat;
       depth = n .depth;
       fresh = 0;
-      action = cond inside 2 1;
+      action = cond inside addToGroup addNumber;
       value = v % 4294967296;
     }
 
@@ -88,27 +98,27 @@ addedTo n times v =
 unfoldable pub adding : ℕ → Line → Token → Line
 adding times s t =
     let n : Numbers = s .numbers in
-    cond (ltb (n .limit) (t .value)) (withError 13 (t .from) s)
-    (cond (ltb 4096 (n .count + n .inner + times)) (withError 18 (t .from) s)
-    (withNumbers (cond (ltb 0 (n .depth)) 6 5) (addedTo n times (t .value)) s))
+    cond (ltb (n .limit) (t .value)) (withError largeError (t .from) s)
+    (cond (ltb 4096 (n .count + n .inner + times)) (withError listLengthError (t .from) s)
+    (withNumbers (cond (ltb outside (n .depth)) groupMode listMode) (addedTo n times (t .value)) s))
 
 unfoldable pub counting : Line → Token → Line
 counting s t =
-    cond (ltb 4096 (t .value)) (withError 18 (t .from) s) (withNumbers 7 (withTimes (min (t .value) 4096) (s .numbers)) s)
+    cond (ltb 4096 (t .value)) (withError listLengthError (t .from) s) (withNumbers countedMode (withTimes (min (t .value) 4096) (s .numbers)) s)
 
 -- a word: in an opening the next argument, but not as the first part; else `week`, or `none` as the first part
 unfoldable pub wordIn : Line → Token → Line
 wordIn s t =
     let fresh : Bool = eqb (s .numbers .fresh) 1 in
-    cond (eqb (s .call) 1) (cond fresh (withError 14 (t .from) s) (inArgument s t))
-    (cond (isWord (t .value) "week") (withMode 8 s) (cond (fresh && isWord (t .value) "none") (withMode 9 s) (withError 14 (t .from) s)))
+    cond (eqb (s .call) openCall) (cond fresh (withError partError (t .from) s) (inArgument s t))
+    (cond (isWord (t .value) "week") (withMode dayMode s) (cond (fresh && isWord (t .value) "none") (withMode lastMode s) (withError partError (t .from) s)))
 
 unfoldable pub inList : Line → Token → Line
 inList s t =
-    cond (eqb (t .kind) 1) (adding 1 s t)
-    (cond (eqb (t .kind) 9) (counting s t)
-    (cond (eqb (t .kind) 2) (wordIn s t)
-    (cond (eqb (t .kind) 3 && not (eqb (s .numbers .fresh) 1)) (withMode 10 s) (withError 14 (t .from) s))))
+    cond (eqb (t .kind) numberKind) (adding 1 s t)
+    (cond (eqb (t .kind) countKind) (counting s t)
+    (cond (eqb (t .kind) wordKind) (wordIn s t)
+    (cond (eqb (t .kind) endKind && not (eqb (s .numbers .fresh) 1)) (withMode readMode s) (withError partError (t .from) s))))
 
 unfoldable pub closedNumbers : Numbers → ℕ → ℕ → Numbers
 closedNumbers n count action =
@@ -118,7 +128,7 @@ closedNumbers n count action =
       inner = 0;
       times = n .times;
       repeat = n .repeat;
-      depth = 0;
+      depth = outside;
       fresh = 0;
       action = action;
       value = n .value;
@@ -128,17 +138,17 @@ closedNumbers n count action =
 unfoldable pub groupClosed : ℕ → Line → Token → Line
 groupClosed hours s t =
     let n : Numbers = s .numbers in
-    let week : Bool = eqb (n .depth) 3 in
+    let week : Bool = eqb (n .depth) inSecondDay in
     let total : ℕ = n .count + cond week 1 (n .repeat) * cond week hours (n .inner) in
-    cond (eqb (n .depth) 2) (cond (not (eqb (n .inner) 24)) (withError 17 (t .from) s) (withMode 8 s))
-    (cond (week && not (eqb (n .inner) 48)) (withError 17 (t .from) s)
-    (cond (ltb 4096 total) (withError 18 (t .from) s) (withNumbers 5 (closedNumbers n total (cond week 4 3)) s)))
+    cond (eqb (n .depth) inFirstDay) (cond (not (eqb (n .inner) 24)) (withError dayLengthError (t .from) s) (withMode dayMode s))
+    (cond (week && not (eqb (n .inner) 48)) (withError dayLengthError (t .from) s)
+    (cond (ltb 4096 total) (withError listLengthError (t .from) s) (withNumbers listMode (closedNumbers n total (cond week addWeek addGroup)) s)))
 
 unfoldable pub inGroup : ℕ → Line → Token → Line
 inGroup hours s t =
-    cond (eqb (t .kind) 1) (adding 1 s t)
-    (cond (eqb (t .kind) 9) (counting s t)
-    (cond (eqb (t .kind) 5 && not (eqb (s .numbers .fresh) 1)) (groupClosed hours s t) (withError 16 (t .from) s)))
+    cond (eqb (t .kind) numberKind) (adding 1 s t)
+    (cond (eqb (t .kind) countKind) (counting s t)
+    (cond (eqb (t .kind) rightKind && not (eqb (s .numbers .fresh) 1)) (groupClosed hours s t) (withError itemError (t .from) s)))
 
 unfoldable pub openedNumbers : Numbers → ℕ → Numbers
 openedNumbers n depth =
@@ -157,10 +167,12 @@ openedNumbers n depth =
 -- behind a count a number, or outside parentheses a (
 unfoldable pub inCounted : Line → Token → Line
 inCounted s t =
-    cond (eqb (t .kind) 1) (adding (s .numbers .times) s t)
-    (cond (eqb (t .kind) 4 && eqb (s .numbers .depth) 0) (withNumbers 6 (openedNumbers (s .numbers) 1) s) (withError 19 (t .from) s))
+    cond (eqb (t .kind) numberKind) (adding (s .numbers .times) s t)
+    (cond (eqb (t .kind) leftKind && eqb (s .numbers .depth) outside)
+    (withNumbers groupMode (openedNumbers (s .numbers) inRepetition) s) (withError countedError (t .from) s))
 
 -- the ( of the first day of a week, or of the second
 unfoldable pub inDay : Line → Token → Line
 inDay s t =
-    cond (eqb (t .kind) 4) (withNumbers 6 (openedNumbers (s .numbers) (cond (eqb (s .numbers .depth) 2) 3 2)) s) (withError 15 (t .from) s)
+    let depth : ℕ = cond (eqb (s .numbers .depth) inFirstDay) inSecondDay inFirstDay in
+    cond (eqb (t .kind) leftKind) (withNumbers groupMode (openedNumbers (s .numbers) depth) s) (withError dayError (t .from) s)

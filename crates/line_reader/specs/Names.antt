@@ -4,6 +4,10 @@ use Prim.Native.Char.{code}
 use Prim.Native.String.{String, [], _∷_}
 use mathlib.Core.Bool.{Bool, cond, _&&_, _||_}
 use lib.Dec.{eqb}
+use Rattle.line_reader.specs.Codes.{noCall, openCall, billingHoursCall, controlHoursCall, neighbourCall, failureCall, admissionCall}
+use Rattle.line_reader.specs.Codes.{denialCall, permissionCall, closeCall, billingKey, controlKey, basisKey, powerKey, placeKey, amperesKey}
+use Rattle.line_reader.specs.Codes.{voltsKey, cosineKey, phasesKey, currentsKey, sourceKey, reasonKey, volumeKey, noKey, numberError}
+use Rattle.line_reader.specs.Codes.{meterError, basisError, sourceError, reasonError}
 
 -- the value of a word: its letters in base 32, a 1 to z 26, behind those that gave v
 abbrev pub spelledFrom : ℕ → String → ℕ
@@ -16,32 +20,32 @@ spelled s = spelledFrom 0 s
 abbrev pub isWord : ℕ → String → Bool
 isWord w s = eqb w (spelled s)
 
--- the call that a word starts, 0 for none; 2 and 4 stand for both readings of a meter
+-- the call that a word starts; the call of a meter's hours stands for both of its readings
 unfoldable pub callOf : ℕ → ℕ
 callOf w =
-    cond (isWord w "open") 1
-    (cond (isWord w "billing") 2
-    (cond (isWord w "control") 4
-    (cond (isWord w "neighbour") 6
-    (cond (isWord w "failure") 7
-    (cond (isWord w "admission") 8
-    (cond (isWord w "denial") 9
-    (cond (isWord w "permission") 10
-    (cond (isWord w "close") 11 0))))))))
+    cond (isWord w "open") openCall
+    (cond (isWord w "billing") billingHoursCall
+    (cond (isWord w "control") controlHoursCall
+    (cond (isWord w "neighbour") neighbourCall
+    (cond (isWord w "failure") failureCall
+    (cond (isWord w "admission") admissionCall
+    (cond (isWord w "denial") denialCall
+    (cond (isWord w "permission") permissionCall
+    (cond (isWord w "close") closeCall noCall))))))))
 
--- the argument that a word of an opening names, 15 for none. The others are 0 the year, 1 the month, 12 the source of a neighbour reading, 13 the reason of a failure, 14 a volume
+-- the argument that a word of an opening names
 unfoldable pub keyOf : ℕ → ℕ
 keyOf w =
-    cond (isWord w "billing") 2
-    (cond (isWord w "control") 3
-    (cond (isWord w "basis") 4
-    (cond (isWord w "power") 5
-    (cond (isWord w "place") 6
-    (cond (isWord w "amperes") 7
-    (cond (isWord w "volts") 8
-    (cond (isWord w "cosine") 9
-    (cond (isWord w "phases") 10
-    (cond (isWord w "currents") 11 15)))))))))
+    cond (isWord w "billing") billingKey
+    (cond (isWord w "control") controlKey
+    (cond (isWord w "basis") basisKey
+    (cond (isWord w "power") powerKey
+    (cond (isWord w "place") placeKey
+    (cond (isWord w "amperes") amperesKey
+    (cond (isWord w "volts") voltsKey
+    (cond (isWord w "cosine") cosineKey
+    (cond (isWord w "phases") phasesKey
+    (cond (isWord w "currents") currentsKey noKey)))))))))
 
 -- a value that is not given
 abbrev pub absent : ℕ
@@ -50,8 +54,8 @@ absent = 18446744073709551615
 -- the number that a word stands for as a meter or a basis
 unfoldable pub contractWord : ℕ → ℕ → ℕ
 contractWord key w =
-    let meter : Bool = eqb key 2 || eqb key 3 in
-    let basis : Bool = eqb key 4 in
+    let meter : Bool = eqb key billingKey || eqb key controlKey in
+    let basis : Bool = eqb key basisKey in
     cond (meter && isWord w "none") 0
     (cond (meter && isWord w "interval") 1
     (cond (meter && isWord w "integral") 2
@@ -62,8 +66,8 @@ contractWord key w =
 -- and as a source or a reason
 unfoldable pub eventWord : ℕ → ℕ → ℕ
 eventWord key w =
-    let source : Bool = eqb key 12 in
-    let reason : Bool = eqb key 13 in
+    let source : Bool = eqb key sourceKey in
+    let reason : Bool = eqb key reasonKey in
     cond (source && isWord w "billing") 1
     (cond (source && isWord w "control") 2
     (cond (reason && isWord w "fault") 1
@@ -72,12 +76,16 @@ eventWord key w =
     (cond (reason && isWord w "removal") 4 absent)))))
 
 unfoldable pub wordValue : ℕ → ℕ → ℕ
-wordValue key w = cond (eqb key 12 || eqb key 13) (eventWord key w) (contractWord key w)
+wordValue key w = cond (eqb key sourceKey || eqb key reasonKey) (eventWord key w) (contractWord key w)
 
 -- the error of an argument whose value is missing
 unfoldable pub expectedFor : ℕ → ℕ
-expectedFor key = cond (eqb key 2 || eqb key 3) 8 (cond (eqb key 4) 9 (cond (eqb key 12) 11 (cond (eqb key 13) 12 4)))
+expectedFor key =
+    cond (eqb key billingKey || eqb key controlKey) meterError
+    (cond (eqb key basisKey) basisError
+    (cond (eqb key sourceKey) sourceError
+    (cond (eqb key reasonKey) reasonError numberError)))
 
 -- the largest number that an argument takes
 unfoldable pub largestFor : ℕ → ℕ
-largestFor key = cond (eqb key 14) 999999999999999999 4294967295
+largestFor key = cond (eqb key volumeKey) 999999999999999999 4294967295

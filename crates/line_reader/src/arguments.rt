@@ -10,12 +10,14 @@ use super::LIST;
 use super::Line;
 use super::MONTH_DASH;
 use super::VALUE;
+use super::calls;
 use super::changes::ask;
 use super::changes::fail;
 use super::changes::set_call;
 use super::changes::set_list;
 use super::changes::store_value;
 use super::changes::to_mode;
+use super::errors;
 use super::names;
 use super::names::call_of;
 use super::names::expected;
@@ -36,15 +38,23 @@ fn begin(s: Line, call: u32) -> Line
     ensures { λ r. ⌜ r ≡ begun call s ⌝ }
 {
     let key = pick(
-        call == 6,
+        call == calls::NEIGHBOUR,
         names::SOURCE,
-        pick(call == 7, names::REASON, names::YEAR),
+        pick(call == calls::FAILURE, names::REASON, names::YEAR),
     );
-    let mode = pick((8 <= call) & (call <= 10), LAST, VALUE);
-    let mode = pick((call == 2) | (call == 4), FORM, mode);
-    let mode = pick(call == 11, LIST, mode);
+    let mode = pick(
+        (calls::ADMISSION <= call) & (call <= calls::PERMISSION),
+        LAST,
+        VALUE,
+    );
+    let mode = pick(
+        (call == calls::BILLING_HOURS) | (call == calls::CONTROL_HOURS),
+        FORM,
+        mode,
+    );
+    let mode = pick(call == calls::CLOSE, LIST, mode);
     let mut numbers = s.numbers;
-    let limit = pick_wide(call == 11, 255, 4294967295);
+    let limit = pick_wide(call == calls::CLOSE, 255, 4294967295);
     numbers.limit = limit;
     set_list(set_call(ask(s, key), call), mode, numbers)
 }
@@ -55,9 +65,9 @@ pub(crate) fn in_call(s: Line, t: Token) -> Line
     if t.kind == END {
         return to_mode(s, DONE);
     }
-    let call = pick(t.kind == WORD, call_of(t.value), 0);
-    if call == 0 {
-        return fail(s, 3, t.from);
+    let call = pick(t.kind == WORD, call_of(t.value), calls::NONE);
+    if call == calls::NONE {
+        return fail(s, errors::CALL, t.from);
     }
     begin(s, call)
 }
@@ -79,7 +89,7 @@ pub(crate) fn in_value(s: Line, t: Token) -> Line
 {
     if t.kind == NUMBER {
         if largest(s.key) < t.value {
-            return fail(s, 13, t.from);
+            return fail(s, errors::LARGE, t.from);
         }
         return take(s, t.value);
     }
@@ -96,7 +106,7 @@ pub(crate) fn in_dash(s: Line, t: Token) -> Line
     if t.kind == DASH {
         return ask(s, names::MONTH);
     }
-    fail(s, 5, t.from)
+    fail(s, errors::DASH, t.from)
 }
 
 // The value of an argument as far as it is read, and ABSENT where there is no such argument.
@@ -113,10 +123,10 @@ fn named(s: Line, t: Token, key: u32) -> Line
     ensures { λ r. ⌜ r ≡ namedAs key s t ⌝ }
 {
     if key == names::NO_KEY {
-        return fail(s, 6, t.from);
+        return fail(s, errors::ARGUMENT, t.from);
     }
     if value_of(s, key) != ABSENT {
-        return fail(s, 7, t.from);
+        return fail(s, errors::TWICE, t.from);
     }
     if key == names::CURRENTS {
         return to_mode(store_value(s, key, 0), LIST);
@@ -141,10 +151,11 @@ pub(crate) fn in_form(s: Line, t: Token) -> Line
         return to_mode(s, LIST);
     }
     if word & (t.value == words::VOLUME) {
-        let call = pick(s.call == 2, 3, 5);
+        let billing = s.call == calls::BILLING_HOURS;
+        let call = pick(billing, calls::BILLING_VOLUME, calls::CONTROL_VOLUME);
         return set_call(ask(s, names::VOLUME), call);
     }
-    fail(s, 10, t.from)
+    fail(s, errors::FORM, t.from)
 }
 
 pub(crate) fn in_last(s: Line, t: Token) -> Line
@@ -153,5 +164,5 @@ pub(crate) fn in_last(s: Line, t: Token) -> Line
     if t.kind == END {
         return to_mode(s, DONE);
     }
-    fail(s, 20, t.from)
+    fail(s, errors::LAST, t.from)
 }

@@ -1,11 +1,11 @@
-// What a token adds to the list, by its action: 1 a number so many times, 2 the same between parentheses, 3 the numbers
-// between parentheses so many times, 4 the days of a month from the two days of a week. The numbers between parentheses
-// stand in a buffer of their own until the parentheses close.
+// What a token adds to the list, by its action. The numbers between parentheses stand in a buffer of their own until the
+// parentheses close.
 ghost use mathlib.Core.Path.{_≡_};
 ghost use lib.ListN.{length};
 ghost use Rattle.numbers.specs.Lists.{at, Filled};
 ghost use Rattle.line_reader.specs.Buffers.{placeFor, part, writtenNumbers, writtenGroup};
 use super::Numbers;
+use super::actions;
 use numbers::word_at;
 
 // Every word of a part becomes a value.
@@ -93,24 +93,23 @@ pub(crate) fn write(
     ensures { λ _. ⌜ now (numbers .exit) ≡ writtenNumbers first before after (now (numbers .entry)) (now (group .entry)) ⌝ }
     ensures { λ _. ⌜ now (group .exit) ≡ writtenGroup before after (now (group .entry)) ⌝ }
 {
-    if after.action == 1 {
-        fill_part(numbers, before.count, after.count, after.value);
-        return;
-    }
-    if after.action == 2 {
-        fill_part(group, before.inner, after.inner, after.value);
-        return;
-    }
-    if 3 <= after.action {
-        let week = after.action == 4;
-        expand_part(
-            numbers,
-            before.count,
-            after.count,
-            group,
-            week,
-            before.inner,
-            first,
-        );
+    let action = after.action;
+    match action {
+        actions::NUMBER => fill_part(numbers, before.count, after.count, after.value),
+        actions::TO_GROUP => fill_part(group, before.inner, after.inner, after.value),
+        _ => {
+            if actions::GROUP <= action {
+                let week = action == actions::WEEK;
+                expand_part(
+                    numbers,
+                    before.count,
+                    after.count,
+                    group,
+                    week,
+                    before.inner,
+                    first,
+                );
+            }
+        }
     }
 }

@@ -3,9 +3,13 @@
 ghost use mathlib.Core.Path.{_≡_};
 ghost use Rattle.line_reader.specs.Lines.{freshLine, afterToken, afterTokenInCall, nextToken, lineRead, readToken, readLine};
 
+mod actions;
 mod arguments;
 mod buffers;
+pub mod calls;
 mod changes;
+mod depths;
+pub mod errors;
 mod lists;
 pub mod names;
 mod words;
@@ -30,8 +34,7 @@ use lists::in_list;
 
 // The list of numbers that a line brings, as far as it is read: the largest number that it takes; how many numbers it has,
 // and how many stand between the parentheses that are open; the count that was read last, and that of the parentheses;
-// 0 outside parentheses, 1 between those of a repetition, 2 and 3 between those of a week; whether a part is still
-// missing. The last two say what the token adds: see `buffers`.
+// their depth; whether a part is still missing. The last two say what the token adds: see `buffers`.
 pub struct Numbers {
     pub limit: u64,
     pub count: u32,
@@ -44,8 +47,8 @@ pub struct Numbers {
     pub value: u32,
 }
 
-// A line as far as it is read: what is expected next, and where; the call, 0 for none; the error, 0 for none, and the
-// place of its token from 0; the argument that is read, the values of the arguments, and the list.
+// A line as far as it is read: what is expected next, and where; the call; the error, and the place of its token
+// from 0; the argument that is read, the values of the arguments, and the list.
 pub struct Line {
     pub mode: u32,
     pub at: usize,
@@ -97,18 +100,18 @@ pub fn fresh_line() -> Line
         inner: 0,
         times: 0,
         repeat: 0,
-        depth: 0,
+        depth: depths::OUTSIDE,
         fresh: 1,
-        action: 0,
+        action: actions::NONE,
         value: 0,
     };
     Line {
         mode: CALL,
         at: 0,
-        call: 0,
-        error: 0,
+        call: calls::NONE,
+        error: errors::NONE,
         place: 0,
-        key: 0,
+        key: names::YEAR,
         values: [ABSENT; 15],
         numbers: numbers,
     }
@@ -119,46 +122,34 @@ fn step(s: Line, t: Token, hours: u32) -> Line
     ensures { λ r. ⌜ r ≡ afterToken hours s t ⌝ }
 {
     if t.kind == FOREIGN {
-        return fail(s, 2, t.from);
+        return fail(s, errors::FOREIGN, t.from);
     }
     if t.kind == LONG {
-        return fail(s, 13, t.from);
+        return fail(s, errors::LARGE, t.from);
     }
-    if s.mode == LIST {
-        return in_list(s, t);
+    let mode = s.mode;
+    match mode {
+        LIST => in_list(s, t),
+        GROUP => in_group(s, t, hours),
+        COUNTED => in_counted(s, t),
+        DAY => in_day(s, t),
+        _ => step_in_call(s, t),
     }
-    if s.mode == GROUP {
-        return in_group(s, t, hours);
-    }
-    if s.mode == COUNTED {
-        return in_counted(s, t);
-    }
-    if s.mode == DAY {
-        return in_day(s, t);
-    }
-    step_in_call(s, t)
 }
 
 // The same outside lists.
 fn step_in_call(s: Line, t: Token) -> Line
     ensures { λ r. ⌜ r ≡ afterTokenInCall s t ⌝ }
 {
-    if s.mode == CALL {
-        return in_call(s, t);
+    let mode = s.mode;
+    match mode {
+        CALL => in_call(s, t),
+        VALUE => in_value(s, t),
+        MONTH_DASH => in_dash(s, t),
+        ARGUMENT => in_argument(s, t),
+        FORM => in_form(s, t),
+        _ => in_last(s, t),
     }
-    if s.mode == VALUE {
-        return in_value(s, t);
-    }
-    if s.mode == MONTH_DASH {
-        return in_dash(s, t);
-    }
-    if s.mode == ARGUMENT {
-        return in_argument(s, t);
-    }
-    if s.mode == FORM {
-        return in_form(s, t);
-    }
-    in_last(s, t)
 }
 
 // The line behind a token, with what it adds to the list still to be written.
@@ -166,7 +157,7 @@ fn next(line: &[u8], s: Line, hours: u32) -> Line
     ensures { λ r. ⌜ r ≡ nextToken hours (now (line .entry)) s ⌝ }
 {
     let mut still = s;
-    still.numbers.action = 0;
+    still.numbers.action = actions::NONE;
     let t = token_at(line, s.at);
     let mut r = step(still, t, hours);
     r.at = t.to;

@@ -1,7 +1,8 @@
 // What a token does in a list: outside parentheses, between them, behind a count and in a week.
 ghost use mathlib.Core.Path.{_≡_};
 ghost use Prim.Native.Nat.{_+_, _*_, _%_, min};
-ghost use Rattle.line_reader.specs.Modes.{addedTo, adding, counting, wordIn, inList, closedNumbers, groupClosed, inGroup, openedNumbers, inCounted, inDay};
+ghost use Rattle.line_reader.specs.Modes.{addedTo, adding, counting, wordIn, inList};
+ghost use Rattle.line_reader.specs.Modes.{closedNumbers, groupClosed, inGroup, openedNumbers, inCounted, inDay};
 use super::COUNTED;
 use super::DAY;
 use super::DONE;
@@ -10,10 +11,14 @@ use super::LAST;
 use super::LIST;
 use super::Line;
 use super::Numbers;
+use super::actions;
 use super::arguments::in_argument;
+use super::calls;
 use super::changes::fail;
 use super::changes::set_list;
 use super::changes::to_mode;
+use super::depths;
+use super::errors;
 use super::words;
 use line_tokens::COUNT;
 use line_tokens::END;
@@ -44,11 +49,11 @@ fn low(x: u64) -> u32
 fn add(n: Numbers, times: u32, value: u64) -> Numbers
     ensures { λ r. ⌜ r ≡ addedTo n times value ⌝ }
 {
-    let inside = 0 < n.depth;
+    let inside = depths::OUTSIDE < n.depth;
     let mut r = n;
     let outer = pick(inside, n.count, short(wide(n.count) + wide(times)));
     let inner = pick(inside, short(wide(n.inner) + wide(times)), n.inner);
-    let action = pick(inside, 2, 1);
+    let action = pick(inside, actions::TO_GROUP, actions::NUMBER);
     r.count = outer;
     r.inner = inner;
     r.fresh = 0;
@@ -71,12 +76,16 @@ fn add_number(s: Line, t: Token, times: u32) -> Line
 {
     let n = s.numbers;
     if n.limit < t.value {
-        return fail(s, 13, t.from);
+        return fail(s, errors::LARGE, t.from);
     }
     if 4096 < together(n.count, n.inner, times) {
-        return fail(s, 18, t.from);
+        return fail(s, errors::LIST_LENGTH, t.from);
     }
-    set_list(s, pick(0 < n.depth, GROUP, LIST), add(n, times, t.value))
+    set_list(
+        s,
+        pick(depths::OUTSIDE < n.depth, GROUP, LIST),
+        add(n, times, t.value),
+    )
 }
 
 // A count: what it repeats is expected.
@@ -84,7 +93,7 @@ fn add_count(s: Line, t: Token) -> Line
     ensures { λ r. ⌜ r ≡ counting s t ⌝ }
 {
     if 4096 < t.value {
-        return fail(s, 18, t.from);
+        return fail(s, errors::LIST_LENGTH, t.from);
     }
     let mut n = s.numbers;
     let times = short(t.value);
@@ -97,9 +106,9 @@ fn word_in_list(s: Line, t: Token) -> Line
     ensures { λ r. ⌜ r ≡ wordIn s t ⌝ }
 {
     let fresh = s.numbers.fresh == 1;
-    if s.call == 1 {
+    if s.call == calls::OPEN {
         if fresh {
-            return fail(s, 14, t.from);
+            return fail(s, errors::PART, t.from);
         }
         return in_argument(s, t);
     }
@@ -109,25 +118,24 @@ fn word_in_list(s: Line, t: Token) -> Line
     if fresh & (t.value == words::NONE) {
         return to_mode(s, LAST);
     }
-    fail(s, 14, t.from)
+    fail(s, errors::PART, t.from)
 }
 
 pub(crate) fn in_list(s: Line, t: Token) -> Line
     ensures { λ r. ⌜ r ≡ inList s t ⌝ }
 {
-    if t.kind == NUMBER {
-        return add_number(s, t, 1);
+    let kind = t.kind;
+    match kind {
+        NUMBER => add_number(s, t, 1),
+        COUNT => add_count(s, t),
+        WORD => word_in_list(s, t),
+        _ => {
+            if (kind == END) & (s.numbers.fresh != 1) {
+                return to_mode(s, DONE);
+            }
+            fail(s, errors::PART, t.from)
+        }
     }
-    if t.kind == COUNT {
-        return add_count(s, t);
-    }
-    if t.kind == WORD {
-        return word_in_list(s, t);
-    }
-    if (t.kind == END) & (s.numbers.fresh != 1) {
-        return to_mode(s, DONE);
-    }
-    fail(s, 14, t.from)
 }
 
 // How many numbers a list has where so many are repeated behind it.
@@ -145,7 +153,7 @@ fn closed(n: Numbers, count: u64, action: u32) -> Numbers
     let total = short(count);
     r.count = total;
     r.inner = 0;
-    r.depth = 0;
+    r.depth = depths::OUTSIDE;
     r.fresh = 0;
     r.action = action;
     r
@@ -156,36 +164,41 @@ fn close_group(s: Line, t: Token, hours: u32) -> Line
     ensures { λ r. ⌜ r ≡ groupClosed hours s t ⌝ }
 {
     let n = s.numbers;
-    if n.depth == 2 {
+    if n.depth == depths::FIRST_DAY {
         if n.inner != 24 {
-            return fail(s, 17, t.from);
+            return fail(s, errors::DAY_LENGTH, t.from);
         }
         return to_mode(s, DAY);
     }
-    if (n.depth == 3) & (n.inner != 48) {
-        return fail(s, 17, t.from);
+    if (n.depth == depths::SECOND_DAY) & (n.inner != 48) {
+        return fail(s, errors::DAY_LENGTH, t.from);
     }
-    let week = n.depth == 3;
+    let week = n.depth == depths::SECOND_DAY;
     let total = repeated(n.count, pick(week, 1, n.repeat), pick(week, hours, n.inner));
     if 4096 < total {
-        return fail(s, 18, t.from);
+        return fail(s, errors::LIST_LENGTH, t.from);
     }
-    set_list(s, LIST, closed(n, total, pick(week, 4, 3)))
+    set_list(
+        s,
+        LIST,
+        closed(n, total, pick(week, actions::WEEK, actions::GROUP)),
+    )
 }
 
 pub(crate) fn in_group(s: Line, t: Token, hours: u32) -> Line
     ensures { λ r. ⌜ r ≡ inGroup hours s t ⌝ }
 {
-    if t.kind == NUMBER {
-        return add_number(s, t, 1);
+    let kind = t.kind;
+    match kind {
+        NUMBER => add_number(s, t, 1),
+        COUNT => add_count(s, t),
+        _ => {
+            if (kind == RIGHT) & (s.numbers.fresh != 1) {
+                return close_group(s, t, hours);
+            }
+            fail(s, errors::ITEM, t.from)
+        }
     }
-    if t.kind == COUNT {
-        return add_count(s, t);
-    }
-    if (t.kind == RIGHT) & (s.numbers.fresh != 1) {
-        return close_group(s, t, hours);
-    }
-    fail(s, 16, t.from)
 }
 
 // The list with parentheses opened.
@@ -206,10 +219,10 @@ pub(crate) fn in_counted(s: Line, t: Token) -> Line
     if t.kind == NUMBER {
         return add_number(s, t, n.times);
     }
-    if (t.kind == LEFT) & (n.depth == 0) {
-        return set_list(s, GROUP, opened(n, 1));
+    if (t.kind == LEFT) & (n.depth == depths::OUTSIDE) {
+        return set_list(s, GROUP, opened(n, depths::REPETITION));
     }
-    fail(s, 19, t.from)
+    fail(s, errors::COUNTED, t.from)
 }
 
 pub(crate) fn in_day(s: Line, t: Token) -> Line
@@ -217,7 +230,9 @@ pub(crate) fn in_day(s: Line, t: Token) -> Line
 {
     let n = s.numbers;
     if t.kind == LEFT {
-        return set_list(s, GROUP, opened(n, pick(n.depth == 2, 3, 2)));
+        let second = n.depth == depths::FIRST_DAY;
+        let depth = pick(second, depths::SECOND_DAY, depths::FIRST_DAY);
+        return set_list(s, GROUP, opened(n, depth));
     }
-    fail(s, 15, t.from)
+    fail(s, errors::DAY, t.from)
 }

@@ -2,11 +2,13 @@
 ghost use mathlib.Core.Path.{_≡_};
 ghost use Rattle.line_reader.specs.Names.{callOf, keyOf, contractWord, eventWord, wordValue, expectedFor, largestFor};
 use super::ABSENT;
+use super::calls;
+use super::errors;
 use super::words;
 use numbers::pick;
 use numbers::pick_wide;
 
-// The arguments of calls, by their places among the values; 15 is none.
+// The arguments of calls, by their places among the values; behind them none.
 pub const YEAR: u32 = 0;
 
 pub const MONTH: u32 = 1;
@@ -39,19 +41,19 @@ pub const VOLUME: u32 = 14;
 
 pub const NO_KEY: u32 = 15;
 
-// The call that a word starts, 0 for none; 2 and 4 stand for both readings of a meter.
+// The call that a word starts; the call of a meter's hours stands for both of its readings.
 pub(crate) fn call_of(w: u64) -> u32
     ensures { λ r. ⌜ r ≡ callOf w ⌝ }
 {
-    let n = pick(w == words::CLOSE, 11, 0);
-    let n = pick(w == words::PERMISSION, 10, n);
-    let n = pick(w == words::DENIAL, 9, n);
-    let n = pick(w == words::ADMISSION, 8, n);
-    let n = pick(w == words::FAILURE, 7, n);
-    let n = pick(w == words::NEIGHBOUR, 6, n);
-    let n = pick(w == words::CONTROL, 4, n);
-    let n = pick(w == words::BILLING, 2, n);
-    pick(w == words::OPEN, 1, n)
+    let n = pick(w == words::CLOSE, calls::CLOSE, calls::NONE);
+    let n = pick(w == words::PERMISSION, calls::PERMISSION, n);
+    let n = pick(w == words::DENIAL, calls::DENIAL, n);
+    let n = pick(w == words::ADMISSION, calls::ADMISSION, n);
+    let n = pick(w == words::FAILURE, calls::FAILURE, n);
+    let n = pick(w == words::NEIGHBOUR, calls::NEIGHBOUR, n);
+    let n = pick(w == words::CONTROL, calls::CONTROL_HOURS, n);
+    let n = pick(w == words::BILLING, calls::BILLING_HOURS, n);
+    pick(w == words::OPEN, calls::OPEN, n)
 }
 
 // The argument that a word of an opening names.
@@ -110,10 +112,10 @@ pub(crate) fn word_value(key: u32, w: u64) -> u64
 pub(crate) fn expected(key: u32) -> u32
     ensures { λ r. ⌜ r ≡ expectedFor key ⌝ }
 {
-    let n = pick(key == REASON, 12, 4);
-    let n = pick(key == SOURCE, 11, n);
-    let n = pick(key == BASIS, 9, n);
-    pick((key == BILLING) | (key == CONTROL), 8, n)
+    let n = pick(key == REASON, errors::REASON, errors::NUMBER);
+    let n = pick(key == SOURCE, errors::SOURCE, n);
+    let n = pick(key == BASIS, errors::BASIS, n);
+    pick((key == BILLING) | (key == CONTROL), errors::METER, n)
 }
 
 // The largest number that an argument takes.

@@ -10,6 +10,7 @@ use borrow.Author.Tests.{lt-ltb}
 use lib.Dec.{eqb, ltb}
 use lib.ListN.{length, List·getD-eq-default}
 use Rattle.numbers.proofs.Laws.{by-cases}
+use Rattle.line_tokens.specs.Kinds.{blankKind, numberKind, wordKind, endKind}
 use Rattle.line_tokens.specs.Tokens.{classOf, spanFrom, byteAt, placeBehind, numberToken, wordToken, tokenFrom, tokenAt}
 use Rattle.line_tokens.proofs.Spans.{getD-any, span-on}
 
@@ -31,28 +32,30 @@ behind-on true line from to l = by-cases (ltb to (length line)) (λ t. rw t (ome
 behind-on false line from to l = l
 
 -- from the end of the line on there is only its end
-end-from : (line : List ℕ) (from : ℕ) → length line ≤ from → tokenFrom line from .kind ≡ 3
+end-from : (line : List ℕ) (from : ℕ) → length line ≤ from → tokenFrom line from .kind ≡ endKind
 unfolding tokenFrom byteAt classOf
 end-from line from l = rw (List·getD-eq-default line 35 {n = from} l)
 
 token-from : (line : List ℕ) (from : ℕ) → from < length line → from < tokenFrom line from .to
 unfolding tokenFrom numberToken wordToken placeBehind
 token-from line from l =
-    by-cases (eqb (classOf (byteAt line from)) 1)
-    (λ t. rw t (behind-on (eqb (byteAt line (spanFrom 1 line from)) 42) line from (spanFrom 1 line from) (span-some 1 line from l t)))
-    (λ n. rw n (by-cases (eqb (classOf (byteAt line from)) 2) (λ t. rw t (span-some 2 line from l t)) (λ f. rw (f, lt-ltb _ _ l) (omega arith))))
+    let class = classOf (byteAt line from) in
+    let to = spanFrom numberKind line from in
+    by-cases (eqb class numberKind)
+    (λ t. rw t (behind-on (eqb (byteAt line to) 42) line from to (span-some numberKind line from l t)))
+    (λ n. rw n (by-cases (eqb class wordKind) (λ t. rw t (span-some wordKind line from l t)) (λ f. rw (f, lt-ltb _ _ l) (omega arith))))
 
 -- A TOKEN ENDS THE LINE, OR MOVES ON
-pub token-on : (line : List ℕ) (at : ℕ) → (tokenAt line at .kind ≡ 3) ⊎ (at < tokenAt line at .to)
+pub token-on : (line : List ℕ) (at : ℕ) → (tokenAt line at .kind ≡ endKind) ⊎ (at < tokenAt line at .to)
 unfolding tokenAt
 token-on line at =
-    let from = spanFrom 0 line at in
+    let from = spanFrom blankKind line at in
     elim (decLt from (length line)) [
-      | yes l ↦ inr (omega (arith, token-from line from l, span-from 0 line at))
+      | yes l ↦ inr (omega (arith, token-from line from l, span-from blankKind line at))
       | no f ↦ inl (end-from line from (omega arith))
     ]
 
 -- and past the last byte it ends it
-pub token-end : (line : List ℕ) (at : ℕ) → length line ≤ at → tokenAt line at .kind ≡ 3
+pub token-end : (line : List ℕ) (at : ℕ) → length line ≤ at → tokenAt line at .kind ≡ endKind
 unfolding tokenAt
-token-end line at l = end-from line (spanFrom 0 line at) (omega (arith, span-from 0 line at))
+token-end line at l = end-from line (spanFrom blankKind line at) (omega (arith, span-from blankKind line at))

@@ -5,22 +5,24 @@ use mathlib.Core.List.{List, [], _∷_}
 use lib.Dec.{eqb, leb, ltb}
 use lib.ListN.{length, drop, getD}
 use Rattle.line_tokens.specs.declared.Token.{Token}
+use Rattle.line_tokens.specs.Kinds.{blankKind, numberKind, wordKind, endKind, leftKind, rightKind, dashKind, otherKind}
+use Rattle.line_tokens.specs.Kinds.{foreignKind, countKind, longKind}
 
 -- byte b is one of a to c
 abbrev pub inRange : ℕ → ℕ → ℕ → Bool
 inRange a c b = leb a b && leb b c
 
--- THE KIND OF A BYTE: 0 blank (space, tab, carriage return), 1 digit, 2 letter, 3 #, 4 (, 5 ), 6 -, 7 any other from 33 to 126, 8 foreign
+-- THE KIND OF A BYTE
 unfoldable pub classOf : ℕ → ℕ
 classOf b =
-    cond (eqb b 32 || eqb b 9 || eqb b 13) 0
-    (cond (inRange 48 57 b) 1
-    (cond (inRange 97 122 b || inRange 65 90 b) 2
-    (cond (eqb b 35) 3
-    (cond (eqb b 40) 4
-    (cond (eqb b 41) 5
-    (cond (eqb b 45) 6
-    (cond (inRange 33 126 b) 7 8)))))))
+    cond (eqb b 32 || eqb b 9 || eqb b 13) blankKind
+    (cond (inRange 48 57 b) numberKind
+    (cond (inRange 97 122 b || inRange 65 90 b) wordKind
+    (cond (eqb b 35) endKind
+    (cond (eqb b 40) leftKind
+    (cond (eqb b 41) rightKind
+    (cond (eqb b 45) dashKind
+    (cond (inRange 33 126 b) otherKind foreignKind)))))))
 
 -- how many bytes of a kind a list starts with
 unfoldable pub leading : ℕ → List ℕ → ℕ
@@ -53,12 +55,12 @@ pub record Counting (base low : ℕ) : Type 0 where
   pub some : 1 ≤ low
   pub few : low ≤ 32
 
--- a number, or a count where * stands directly behind it; of more than 18 digits it is too long, kind 10
+-- a number, or a count where * stands directly behind it; of more than 18 digits it is too long
 unfoldable pub numberToken : List ℕ → ℕ → Token
 numberToken line from =
-    let to : ℕ = spanFrom 1 line from in
+    let to : ℕ = spanFrom numberKind line from in
     record {
-      kind = cond (ltb 18 (to - from)) 10 (cond (eqb (byteAt line to) 42) 9 1);
+      kind = cond (ltb 18 (to - from)) longKind (cond (eqb (byteAt line to) 42) countKind numberKind);
       value = valueOf 10 16 line from (to - from);
       from = from;
       to = cond (eqb (byteAt line to) 42) (placeBehind line to) to;
@@ -67,16 +69,16 @@ numberToken line from =
 -- a word; of more than 12 letters it has the value 0, which no word that is known has
 unfoldable pub wordToken : List ℕ → ℕ → Token
 wordToken line from =
-    let to : ℕ = spanFrom 2 line from in
-    record { kind = 2; value = cond (ltb 12 (to - from)) 0 (valueOf 32 32 line from (to - from)); from = from; to = to }
+    let to : ℕ = spanFrom wordKind line from in
+    record { kind = wordKind; value = cond (ltb 12 (to - from)) 0 (valueOf 32 32 line from (to - from)); from = from; to = to }
 
 -- what starts at a place
 unfoldable pub tokenFrom : List ℕ → ℕ → Token
 tokenFrom line from =
     let kind : ℕ = classOf (byteAt line from) in
-    cond (eqb kind 1) (numberToken line from)
-    (cond (eqb kind 2) (wordToken line from) (record { kind = kind; value = 0; from = from; to = placeBehind line from }))
+    cond (eqb kind numberKind) (numberToken line from)
+    (cond (eqb kind wordKind) (wordToken line from) (record { kind = kind; value = 0; from = from; to = placeBehind line from }))
 
 -- THE TOKEN at a place, behind blanks
 unfoldable pub tokenAt : List ℕ → ℕ → Token
-tokenAt line at = tokenFrom line (spanFrom 0 line at)
+tokenAt line at = tokenFrom line (spanFrom blankKind line at)

@@ -7,6 +7,7 @@ use line_player::Progress;
 use line_player::bad_line;
 use line_player::one_more;
 use line_player::play_line;
+use line_reader::errors;
 use text::put;
 
 // Adds bytes to a line; one with too many is too long as a whole.
@@ -32,7 +33,7 @@ fn play_whole(
     out: &mut [u8],
 ) -> Progress {
     if long {
-        return bad_line(p, o, out, 16385, 1);
+        return bad_line(p, o, out, 16385, errors::LONG_LINE);
     }
     if n <= line.len() {
         return play_line(&line[..n], o, p, store, out);

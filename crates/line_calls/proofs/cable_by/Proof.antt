@@ -5,7 +5,9 @@ use Rattle.line_calls.proofs.cable_by.Tie as tie
 
 returns : tie.Need-returns
 unfolding cableBy
-returns c = rw (c .field4 .ensures, c .before .field3 .ensures, c .before .before .field2 .ensures, c .before .before .before .field .ensures)
+returns c =
+    let first = c .before .before in
+    rw (c .field4 .ensures, c .before .field3 .ensures, first .field2 .ensures, first .before .field .ensures)
 
 pub cable-by-spec : {M : Type 1} → statement M
 cable-by-spec =

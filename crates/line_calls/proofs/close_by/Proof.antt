@@ -11,7 +11,10 @@ slice-aggregate-close c =
     simp length-take (omega (arith, p .size, p .filled .long))
 
 returns : tie.Need-returns
-returns c = rw (← marks-made _ _ _ _ (c .before .before .before .before .before .before .before .before .before .copy-marks .ensures) (c .before .before .before .before .before .before .before .before .before .before .before .no-marks .ensures)) (c .before .before .before .before .close .ensures)
+returns c =
+    let closed = c .before .before .before .before in
+    let copied = closed .before .before .before .before .before in
+    rw (← marks-made _ _ _ _ (copied .copy-marks .ensures) (copied .before .before .no-marks .ensures)) (closed .close .ensures)
 
 pub close-by-spec : {M : Type 1} → statement M
 close-by-spec =

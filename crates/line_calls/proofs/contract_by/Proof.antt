@@ -5,7 +5,15 @@ use Rattle.line_calls.proofs.contract_by.Tie as tie
 
 returns : tie.Need-returns
 unfolding askedBy
-returns c = rw (c .cable-by .ensures, c .before .field4 .ensures, c .before .before .field3 .ensures, c .before .before .before .field2 .ensures, c .before .before .before .before .field .ensures)
+returns c =
+    let kinds = c .before .before in
+    rw (
+      c .cable-by .ensures,
+      c .before .field4 .ensures,
+      kinds .field3 .ensures,
+      kinds .before .field2 .ensures,
+      kinds .before .before .field .ensures,
+    )
 
 pub contract-by-spec : {M : Type 1} → statement M
 contract-by-spec =

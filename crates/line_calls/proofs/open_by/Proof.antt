@@ -5,7 +5,10 @@ use Rattle.line_calls.proofs.open_by.Tie as tie
 
 returns : tie.Need-returns
 unfolding openingBy
-returns c = rw (← c .before .before .before .before .before .before .contract-by .ensures, ← c .before .before .before .before .before .date-by .ensures, ← c .before .before .before .before .argument .ensures) (c .before .before .open-point .ensures)
+returns c =
+    let place = c .before .before .before .before in
+    rw (← place .before .before .contract-by .ensures, ← place .before .date-by .ensures, ← place .argument .ensures)
+    (c .before .before .open-point .ensures)
 
 pub open-by-spec : {M : Type 1} → statement M
 open-by-spec =

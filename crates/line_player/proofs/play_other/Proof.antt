@@ -3,7 +3,9 @@ use Rattle.line_player.proofs.play_other.Statement.{statement}
 use Rattle.line_player.proofs.play_other.Tie as tie
 
 returns : tie.Need-returns
-returns c = rw (c .answered .ensures) (c .before .before .before .before .before .before .before .answer-of .ensures)
+returns c =
+    let made = c .before .before .before .before .before .before .before in
+    rw (c .answered .ensures) (made .answer-of .ensures)
 
 pub play-other-spec : {M : Type 1} → statement M
 play-other-spec =

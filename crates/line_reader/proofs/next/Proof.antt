@@ -3,9 +3,11 @@ use Rattle.line_reader.specs.Lines.{nextToken}
 use Rattle.line_reader.proofs.next.Statement.{statement}
 use Rattle.line_reader.proofs.next.Tie as tie
 
-returns : tie.Need-returns
-unfolding nextToken
-returns c = rw (c .step .ensures, c .before .token-at .ensures)
-
 pub next-spec : {M : Type 1} → statement M
-next-spec = tie.close (tie.spec (λ c κs. search needs) (λ c κs. search needs) returns)
+unfolding nextToken
+next-spec =
+    tie.close
+    (tie.spec
+    (λ c κs. search needs)
+    (λ c κs. search needs)
+    (λ c. rw (c .step .ensures, c .before .token-at .ensures)))

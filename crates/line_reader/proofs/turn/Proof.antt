@@ -11,9 +11,10 @@ returns c = rw (le-leb _ _ (c .if1 .taken))
 returns-2 : tie.Need-returns-2
 unfolding readToken
 returns-2 c =
-    let w = c .before .before .before .before .write .ensures in
-    let n = c .before .before .before .before .before .before .before .before .before .next .ensures in
-    rw (lt-leb _ _ (c .before .before .before .before .before .before .before .before .before .before .if1 .left), ← n, w .0, w .1)
+    let written = c .before .before .before .before in
+    let after = written .before .before .before .before .before in
+    let w = written .write .ensures in
+    rw (lt-leb _ _ (after .before .if1 .left), ← after .next .ensures, w .0, w .1)
 
 pub turn-spec : {M : Type 1} → statement M
 turn-spec =

@@ -5,7 +5,19 @@ use Rattle.line_tokens.proofs.class_of.Tie as tie
 
 returns : tie.Need-returns
 unfolding classOf
-returns c = rw (c .pick8 .ensures, c .before .pick7 .ensures, c .before .before .pick6 .ensures, c .before .before .before .pick5 .ensures, c .before .before .before .before .pick4 .ensures, c .before .before .before .before .before .pick3 .ensures, c .before .before .before .before .before .before .pick2 .ensures, c .before .before .before .before .before .before .before .pick .ensures)
+returns c =
+    let marks = c .before .before .before in
+    let first = marks .before .before .before in
+    rw (
+      c .pick8 .ensures,
+      c .before .pick7 .ensures,
+      c .before .before .pick6 .ensures,
+      marks .pick5 .ensures,
+      marks .before .pick4 .ensures,
+      marks .before .before .pick3 .ensures,
+      first .pick2 .ensures,
+      first .before .pick .ensures,
+    )
 
 pub class-of-spec : {M : Type 1} → statement M
 class-of-spec =

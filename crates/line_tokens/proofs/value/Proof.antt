@@ -20,11 +20,9 @@ loop-holds c = (omega arith, omega arith, rw sub-self)
 loop-again : tie.Need-loop-again Inv-loop μ-loop
 loop-again c =
     let here = c .before .before .before in
-    let a = here .before .before .args in (
-      omega arith,
-      omega arith,
-      c .grown .ensures ∙ rw (here .loop .inv .2, c .before .byte-at .ensures) (sym (value-on (a .base) (a .low) (a .line .now) (a .from) (here .loop .i) (here .loop .inv .0))),
-    )
+    let a = here .before .before .args in
+    let on = value-on (a .base) (a .low) (a .line .now) (a .from) (here .loop .i) (here .loop .inv .0) in
+    (omega arith, omega arith, c .grown .ensures ∙ rw (here .loop .inv .2, c .before .byte-at .ensures) (sym on))
 
 returns : tie.Need-returns Inv-loop μ-loop
 returns c =

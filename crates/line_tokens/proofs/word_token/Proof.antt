@@ -5,7 +5,9 @@ use Rattle.line_tokens.proofs.word_token.Tie as tie
 
 returns : tie.Need-returns
 unfolding wordToken
-returns c = rw (c .pick-wide .ensures, c .before .value .ensures, c .before .before .size-above .ensures, c .before .before .before .span .ensures)
+returns c =
+    let letters = c .before .before in
+    rw (c .pick-wide .ensures, c .before .value .ensures, letters .size-above .ensures, letters .before .span .ensures)
 
 pub word-token-spec : {M : Type 1} → statement M
 word-token-spec =

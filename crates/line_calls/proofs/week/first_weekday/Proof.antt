@@ -18,17 +18,24 @@ array-read-shift c = omega (arith, open-limits _ (sym (c .before .before .is-ope
 
 sub-y : tie.Need-sub-y
 unfolding monthNumber
-sub-y c = omega (arith, c .bit .ensures .1, c .before .before .wide .ensures, open-limits _ (sym (c .before .before .before .before .before .is-open .ensures) ∙ c .before .before .before .before .if1 .taken))
+sub-y c =
+    let opened = c .before .before .before .before in
+    let limits = open-limits _ (sym (opened .before .is-open .ensures) ∙ opened .if1 .taken) in
+    omega (arith, c .bit .ensures .1, c .before .before .wide .ensures, limits)
 
 add-result-3 : tie.Need-add-result-3
 unfolding noneAbove
 add-result-3 c =
-    let small : c .wide2 .result ≤ 6 = rw (c .wide2 .ensures) (none-above-at 6 shifts refl (c .before .before .before .before .before .before .before .args .d .month - 1)) in
+    let d = c .before .before .before .before .before .before .before .args .d in
+    let small : c .wide2 .result ≤ 6 = rw (c .wide2 .ensures) (none-above-at 6 shifts refl (d .month - 1)) in
     omega (arith, c .before .before .before .wide .ensures)
 
 returns : tie.Need-returns
 unfolding firstWeekday
-returns c = rw (sym (c .before .before .before .before .before .before .is-open .ensures) ∙ c .before .before .before .before .before .if1 .taken, c .wide2 .ensures, c .before .bit .ensures .0, c .before .before .before .wide .ensures)
+returns c =
+    let opened = c .before .before .before .before .before in
+    let year = c .before .before .before in
+    rw (sym (opened .before .is-open .ensures) ∙ opened .if1 .taken, c .wide2 .ensures, c .before .bit .ensures .0, year .wide .ensures)
 
 returns-2 : tie.Need-returns-2
 unfolding firstWeekday

@@ -4,28 +4,23 @@ use Rattle.line_reader.specs.Modes.{adding}
 use Rattle.line_reader.proofs.lists.add_number.Statement.{statement}
 use Rattle.line_reader.proofs.lists.add_number.Tie as tie
 
-returns : tie.Need-returns
-unfolding adding
-returns c = rw (lt-ltb _ _ (c .before .if1 .taken)) (rw (c .fail .ensures))
-
-returns-2 : tie.Need-returns-2
-unfolding adding
-returns-2 c = rw (← c .before .before .together .ensures, le-ltb _ _ (c .before .before .before .if1 .left), lt-ltb 4096 _ (c .before .if2 .taken)) (rw (c .fail2 .ensures))
-
-returns-3 : tie.Need-returns-3
-unfolding adding
-returns-3 c = rw (← c .before .before .before .before .before .together .ensures, le-ltb _ _ (c .before .before .before .before .before .before .if1 .left), le-ltb 4096 _ (c .before .before .before .before .if2 .left)) (rw (c .set-list .ensures, c .before .add .ensures, c .before .before .pick .ensures))
-
 pub add-number-spec : {M : Type 1} → statement M
+unfolding adding
 add-number-spec =
     tie.close
     (tie.spec
     (λ c κs. search needs)
-    returns
+    (λ c. rw (c .fail .ensures, lt-ltb _ _ (c .before .if1 .taken)))
     (λ c κs. search needs)
     (λ c κs. search needs)
-    returns-2
+    (λ c.
+    let all = c .before .before in
+    rw (c .fail2 .ensures, ← all .together .ensures, le-ltb _ _ (all .before .if1 .left), lt-ltb 4096 _ (c .before .if2 .taken)))
     (λ c κs. search needs)
     (λ c κs. search needs)
     (λ c κs. search needs)
-    returns-3)
+    (λ c.
+    let few = c .before .before .before .before in
+    let small = le-ltb _ _ (few .before .before .if1 .left) in
+    let fit = le-ltb 4096 _ (few .if2 .left) in
+    rw (c .set-list .ensures, c .before .add .ensures, c .before .before .pick .ensures, ← few .before .together .ensures, small, fit)))

@@ -3,11 +3,8 @@ use Rattle.line_reader.specs.Names.{callOf}
 use Rattle.line_reader.proofs.names.call_of.Statement.{statement}
 use Rattle.line_reader.proofs.names.call_of.Tie as tie
 
-returns : tie.Need-returns
-unfolding callOf
-returns c = rw (c .pick9 .ensures, c .before .pick8 .ensures, c .before .before .pick7 .ensures, c .before .before .before .pick6 .ensures, c .before .before .before .before .pick5 .ensures, c .before .before .before .before .before .pick4 .ensures, c .before .before .before .before .before .before .pick3 .ensures, c .before .before .before .before .before .before .before .pick2 .ensures, c .before .before .before .before .before .before .before .before .pick .ensures)
-
 pub call-of-spec : {M : Type 1} → statement M
+unfolding callOf
 call-of-spec =
     tie.close
     (tie.spec
@@ -20,4 +17,17 @@ call-of-spec =
     (λ c κs. search needs)
     (λ c κs. search needs)
     (λ c κs. search needs)
-    returns)
+    (λ c.
+    let events = c .before .before .before in
+    let first = events .before .before .before in
+    rw (
+      c .pick9 .ensures,
+      c .before .pick8 .ensures,
+      c .before .before .pick7 .ensures,
+      events .pick6 .ensures,
+      events .before .pick5 .ensures,
+      events .before .before .pick4 .ensures,
+      first .pick3 .ensures,
+      first .before .pick2 .ensures,
+      first .before .before .pick .ensures,
+    )))

@@ -3,11 +3,8 @@ use Rattle.line_reader.specs.Names.{contractWord}
 use Rattle.line_reader.proofs.names.contract_word.Statement.{statement}
 use Rattle.line_reader.proofs.names.contract_word.Tie as tie
 
-returns : tie.Need-returns
-unfolding contractWord
-returns c = rw (c .pick-wide6 .ensures, c .before .pick-wide5 .ensures, c .before .before .pick-wide4 .ensures, c .before .before .before .pick-wide3 .ensures, c .before .before .before .before .pick-wide2 .ensures, c .before .before .before .before .before .pick-wide .ensures)
-
 pub contract-word-spec : {M : Type 1} → statement M
+unfolding contractWord
 contract-word-spec =
     tie.close
     (tie.spec
@@ -17,4 +14,13 @@ contract-word-spec =
     (λ c κs. search needs)
     (λ c κs. search needs)
     (λ c κs. search needs)
-    returns)
+    (λ c.
+    let first = c .before .before .before in
+    rw (
+      c .pick-wide6 .ensures,
+      c .before .pick-wide5 .ensures,
+      c .before .before .pick-wide4 .ensures,
+      first .pick-wide3 .ensures,
+      first .before .pick-wide2 .ensures,
+      first .before .before .pick-wide .ensures,
+    )))

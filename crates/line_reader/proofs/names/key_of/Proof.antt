@@ -3,11 +3,8 @@ use Rattle.line_reader.specs.Names.{keyOf}
 use Rattle.line_reader.proofs.names.key_of.Statement.{statement}
 use Rattle.line_reader.proofs.names.key_of.Tie as tie
 
-returns : tie.Need-returns
-unfolding keyOf
-returns c = rw (c .pick10 .ensures, c .before .pick9 .ensures, c .before .before .pick8 .ensures, c .before .before .before .pick7 .ensures, c .before .before .before .before .pick6 .ensures, c .before .before .before .before .before .pick5 .ensures, c .before .before .before .before .before .before .pick4 .ensures, c .before .before .before .before .before .before .before .pick3 .ensures, c .before .before .before .before .before .before .before .before .pick2 .ensures, c .before .before .before .before .before .before .before .before .before .pick .ensures)
-
 pub key-of-spec : {M : Type 1} → statement M
+unfolding keyOf
 key-of-spec =
     tie.close
     (tie.spec
@@ -21,4 +18,19 @@ key-of-spec =
     (λ c κs. search needs)
     (λ c κs. search needs)
     (λ c κs. search needs)
-    returns)
+    (λ c.
+    let power = c .before .before .before in
+    let cable = power .before .before in
+    let first = cable .before .before in
+    rw (
+      c .pick10 .ensures,
+      c .before .pick9 .ensures,
+      c .before .before .pick8 .ensures,
+      power .pick7 .ensures,
+      power .before .pick6 .ensures,
+      cable .pick5 .ensures,
+      cable .before .pick4 .ensures,
+      first .pick3 .ensures,
+      first .before .pick2 .ensures,
+      first .before .before .pick .ensures,
+    )))

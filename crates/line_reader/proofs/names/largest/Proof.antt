@@ -3,13 +3,10 @@ use Rattle.line_reader.specs.Names.{largestFor}
 use Rattle.line_reader.proofs.names.largest.Statement.{statement}
 use Rattle.line_reader.proofs.names.largest.Tie as tie
 
-returns : tie.Need-returns
-unfolding largestFor
-returns c = rw (c .pick-wide .ensures)
-
 pub largest-spec : {M : Type 1} → statement M
+unfolding largestFor
 largest-spec =
     tie.close
     (tie.spec
     (λ c κs. search needs)
-    returns)
+    (λ c. rw (c .pick-wide .ensures)))
