@@ -17,9 +17,9 @@ use Rattle.line_reader.specs.Lines.{freshLine}
 use Rattle.line_calls.specs.Calls.{argumentOf, fieldOf, cableBy, askedBy, dateBy, openingBy, marksFrom, callBy}
 use Rattle.line_calls.specs.Week.{firstWeekday}
 
-unfoldable making : Unit {0}
+unfoldable callDefinitions : Unit {0}
 unfolding callBy openingBy dateBy askedBy cableBy fieldOf argumentOf valueIn marksFrom
-making = tt
+callDefinitions = tt
 
 abbrev on : ℕ → ℕ → Date
 on y m = record { year = y; month = m }
@@ -56,7 +56,7 @@ openings :
       currents = 7 ∷ [];
       place = 4294967295;
     })
-unfolding making
+unfolding callDefinitions
 openings = (refl, refl, refl)
 
 abbrev line : ℕ → Line
@@ -84,7 +84,7 @@ calls :
     × (callBy (withCall billingVolumeCall freshLine) list buffer ≡ billingVolume 0)
     × (callBy (withCall neighbourCall freshLine) list buffer ≡ neighbour 0 0)
     × (callBy (withCall failureCall freshLine) list buffer ≡ failure 0)
-unfolding making
+unfolding callDefinitions
 calls = (refl, refl, refl, refl, refl, refl, refl, refl, refl, refl, refl, refl, refl, refl)
 
 -- a byte for each number, up to 4,096 of them
@@ -94,7 +94,7 @@ marks :
     × (marksFrom (256 ∷ 259 ∷ []) ≡ 0 ∷ 3 ∷ [])
     × (length (marksFrom (replicate 743 1)) ≡ 743)
     × (length (marksFrom (replicate 745 1)) ≡ 745)
-unfolding making
+unfolding callDefinitions
 marks = (refl, refl, refl, refl, refl)
 
 -- Monday is 0. January 2014 starts on a Wednesday; in 2100 there is no leap day, in 2400 there is

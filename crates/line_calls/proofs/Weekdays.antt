@@ -30,7 +30,8 @@ summed : (x q c f a b d k : ℕ) → c ≤ x → b ≤ 1 → 1 + a + d ≡ b + k
 summed x q c f a b d k l m e = omega arith
 
 -- a year more, with what it adds to the fourth, hundredth and four hundredth parts
-moved-on : (x y a b d k : ℕ) → y ≡ x + 1 → y / 4 ≡ x / 4 + a → y / 100 ≡ x / 100 + b → y / 400 ≡ x / 400 + d → b ≤ 1 → 1 + a + d ≡ b + k → moved y ≡ moved x + k
+moved-on : (x y a b d k : ℕ) → y ≡ x + 1 → y / 4 ≡ x / 4 + a → y / 100 ≡ x / 100 + b → y / 400 ≡ x / 400 + d → b ≤ 1
+    → 1 + a + d ≡ b + k → moved y ≡ moved x + k
 moved-on x y a b d k n p q r m e = rw (p, q, r, n) (summed x (x / 4) (x / 100) (x / 400) a b d k (fewer x) m e)
 
 adds-4 : (y : ℕ) → 1 ≤ y → y % 4 ≡ 0 → y / 4 ≡ (y - 1) / 4 + 1
@@ -66,7 +67,8 @@ year-on y l =
     (λ c. rw (a, b, c) (moved-on (y - 1) y 1 1 1 2 n p q (adds-400 y l (eqb-true (y % 400) 0 c)) (lit≤ tt) refl))
     (λ c. rw (a, b, c) (moved-on (y - 1) y 1 1 0 1 n p q (stays-400 y (eqb-false (y % 400) 0 c)) (lit≤ tt) refl)))
     (λ b.
-    rw (a, b) (moved-on (y - 1) y 1 0 0 2 n p (stays-100 y (eqb-false (y % 100) 0 b)) (stays-400 y (λ e. eqb-false (y % 100) 0 b (omega arith))) (lit≤ tt) refl)))
+    rw (a, b) (moved-on (y - 1) y 1 0 0 2 n p (stays-100 y (eqb-false (y % 100) 0 b)) (stays-400 y (λ e. eqb-false (y % 100) 0 b (omega arith)))
+    (lit≤ tt) refl)))
     (λ a.
     let f = eqb-false (y % 4) 0 a in
     rw a (moved-on (y - 1) y 0 0 0 1 n (stays-4 y f) (stays-100 y (λ e. f (omega arith))) (stays-400 y (λ e. f (omega arith))) (lit≤ tt) refl))
@@ -110,7 +112,8 @@ month-on y (suc (suc (suc (suc (suc (suc (suc zero))))))) l h = rw (and-false (l
 month-on y (suc (suc (suc (suc (suc (suc (suc (suc zero)))))))) l h = rw (and-false (leapYear y), less-none y) (later (moved y) 4 6 30 4 refl)
 month-on y (suc (suc (suc (suc (suc (suc (suc (suc (suc zero))))))))) l h = rw (and-false (leapYear y), less-none y) (later (moved y) 6 2 31 5 refl)
 month-on y (suc (suc (suc (suc (suc (suc (suc (suc (suc (suc zero)))))))))) l h = rw (and-false (leapYear y), less-none y) (later (moved y) 2 4 30 4 refl)
-month-on y (suc (suc (suc (suc (suc (suc (suc (suc (suc (suc (suc zero))))))))))) l h = rw (and-false (leapYear y), less-none y, back y) (later (moved y) 4 0 31 5 refl)
+month-on y (suc (suc (suc (suc (suc (suc (suc (suc (suc (suc (suc zero))))))))))) l h =
+    rw (and-false (leapYear y), less-none y, back y) (later (moved y) 4 0 31 5 refl)
 month-on y (suc (suc (suc (suc (suc (suc (suc (suc (suc (suc (suc (suc m)))))))))))) l h = absurd (omega arith)
 
 open-first : (d : Date) → isOpen d ≡ true → firstWeekday d ≡ first d

@@ -18,7 +18,7 @@ use Rattle.line_reader.specs.declared.Line.{Line}
 use Rattle.line_reader.specs.Codes.{callMode, valueMode, dashMode, argumentMode, formMode, listMode, groupMode, countedMode, dayMode}
 use Rattle.line_reader.specs.Codes.{readMode, failedMode, noCall, openCall, billingHoursCall, controlHoursCall, admissionCall, permissionCall}
 use Rattle.line_reader.specs.Codes.{closeCall, yearKey, billingKey, controlKey, basisKey, phasesKey, currentsKey, sourceKey, reasonKey, noKey}
-use Rattle.line_reader.specs.Codes.{noError, outside, inFirstDay, inSecondDay}
+use Rattle.line_reader.specs.Codes.{noError, outsideDepth, firstDayDepth, secondDayDepth}
 use Rattle.line_reader.specs.Changes.{withError, withNumbers, withoutAction}
 use Rattle.line_reader.specs.Names.{isWord, callOf, keyOf, absent, wordValue, expectedFor, largestFor}
 use Rattle.line_reader.specs.Modes.{ifWord, begun, inCall, valueTaken, inValue, inDash, valueIn, namedAs, inArgument, inForm, inLast, adding}
@@ -115,7 +115,7 @@ module _ (s : Line) (t : Token) (e : s .error ≡ noError) where
   adding-stands times =
       stands-either (ltb (s .numbers .limit) (t .value)) (fail (omega arith))
       (stands-either (ltb 4096 (s .numbers .count + s .numbers .inner + times)) (fail (omega arith))
-      (goes e (cond-most (ltb outside (s .numbers .depth)) (omega arith) (omega arith))))
+      (goes e (cond-most (ltb outsideDepth (s .numbers .depth)) (omega arith) (omega arith))))
 
   counting-stands : Stands (counting s t)
   unfolding counting
@@ -141,8 +141,8 @@ module _ (s : Line) (t : Token) (e : s .error ≡ noError) where
   unfolding groupClosed
   closing-stands hours =
       let n = s .numbers in
-      let week = eqb (n .depth) inSecondDay in
-      stands-either (eqb (n .depth) inFirstDay) (stands-either (not (eqb (n .inner) 24)) (fail (omega arith)) (goes e (omega arith)))
+      let week = eqb (n .depth) secondDayDepth in
+      stands-either (eqb (n .depth) firstDayDepth) (stands-either (not (eqb (n .inner) 24)) (fail (omega arith)) (goes e (omega arith)))
       (stands-either (week && not (eqb (n .inner) 48)) (fail (omega arith))
       (stands-either (ltb 4096 (n .count + cond week 1 (n .repeat) * cond week hours (n .inner))) (fail (omega arith)) (goes e (omega arith))))
 
@@ -157,7 +157,7 @@ module _ (s : Line) (t : Token) (e : s .error ≡ noError) where
   unfolding inCounted
   counted-stands =
       stands-either (eqb (t .kind) numberKind) (adding-stands (s .numbers .times))
-      (stands-either (eqb (t .kind) leftKind && eqb (s .numbers .depth) outside) (goes e (omega arith)) (fail (omega arith)))
+      (stands-either (eqb (t .kind) leftKind && eqb (s .numbers .depth) outsideDepth) (goes e (omega arith)) (fail (omega arith)))
 
   day-stands : Stands (inDay s t)
   unfolding inDay

@@ -24,32 +24,32 @@ abbrev bytes : String → List ℕ
 bytes [] = []
 bytes (c ∷ s) = code c ∷ bytes s
 
-unfoldable reading : Unit {0}
+unfoldable lineDefinitions : Unit {0}
 unfolding readLine readTokens readToken nextToken afterToken afterTokenInCall
     inCall begun inValue valueTaken inDash valueIn namedAs inArgument inForm inLast
     addedTo adding counting wordIn inList closedNumbers groupClosed inGroup openedNumbers inCounted inDay
     part placeFor writtenNumbers writtenGroup callOf keyOf contractWord eventWord wordValue expectedFor largestFor
     tokenAt tokenFrom numberToken wordToken valueOf grownBy placeBehind byteAt spanFrom leading classOf
-reading = tt
+lineDefinitions = tt
 
 -- what a line was read as: how it ended, its call, its arguments and its list
-record Heard : Type 0 where
+record ReadAs : Type 0 where
   mode : ℕ
   call : ℕ
   values : List ℕ
   list : List ℕ
 
 -- a line in a month of so many hours, with its first day
-abbrev heardIn : ℕ → ℕ → List ℕ → LineRead
-heardIn hours first line = readLine hours first line (zeros 60) (zeros 60)
+abbrev readIn : ℕ → ℕ → List ℕ → LineRead
+readIn hours first line = readLine hours first line (zeros 60) (zeros 60)
 
-abbrev heard : String → Heard
-heard text =
-    let r : LineRead = heardIn 0 0 (bytes text) in
+abbrev readAs : String → ReadAs
+readAs text =
+    let r : LineRead = readIn 0 0 (bytes text) in
     record { mode = r .line .mode; call = r .line .call; values = r .line .values; list = take (r .line .numbers .count) (r .numbers) }
 
-abbrev said : ℕ → List ℕ → List ℕ → Heard
-said call values list = record { mode = readMode; call = call; values = values; list = list }
+abbrev asCall : ℕ → List ℕ → List ℕ → ReadAs
+asCall call values list = record { mode = readMode; call = call; values = values; list = list }
 
 -- no argument given
 abbrev bare : List ℕ
@@ -68,77 +68,77 @@ two key v key′ v′ = set (one key v) key′ v′
 
 -- a blank line and comments are no call
 no-calls :
-    (heard "" ≡ said noCall bare [])
-    × (heard "   " ≡ said noCall bare [])
-    × (heard "# close 1" ≡ said noCall bare [])
-    × (heard "  #" ≡ said noCall bare [])
-unfolding reading
+    (readAs "" ≡ asCall noCall bare [])
+    × (readAs "   " ≡ asCall noCall bare [])
+    × (readAs "# close 1" ≡ asCall noCall bare [])
+    × (readAs "  #" ≡ asCall noCall bare [])
+unfolding lineDefinitions
 no-calls = (refl, refl, refl, refl)
 
 -- a month alone; arguments in any order, with words and numbers; a list that another argument ends
 openings :
-    (heard "open 2023-02" ≡ said openCall (two yearKey 2023 monthKey 2) [])
-    × (heard "open 2023 - 2" ≡ said openCall (two yearKey 2023 monthKey 2) [])
-    × (heard "open 0-13" ≡ said openCall (two yearKey 0 monthKey 13) [])
-    × (heard "open 2023-01 billing interval control integral basis agreed power 100"
-    ≡ said openCall (firsts (2023 ∷ 1 ∷ 1 ∷ 2 ∷ 1 ∷ 100 ∷ [])) [])
-    × (heard "OPEN 2023-2 phases 3 cosine 950 volts 400 amperes 63 place 1 currents 10 2*20 basis shared control none billing 7"
-    ≡ said openCall (firsts (2023 ∷ 2 ∷ 7 ∷ 0 ∷ 2 ∷ absent ∷ 1 ∷ 63 ∷ 400 ∷ 950 ∷ 3 ∷ 0 ∷ [])) (10 ∷ 20 ∷ 20 ∷ []))
-    × (heard "open2023-2basis cable power4294967295currents 2*(1 2)"
-    ≡ said openCall (set (firsts (2023 ∷ 2 ∷ absent ∷ absent ∷ 3 ∷ 4294967295 ∷ [])) currentsKey 0) (1 ∷ 2 ∷ 1 ∷ 2 ∷ []))
-    × (heard "open 2023-2 billing none control 0 basis 0" ≡ said openCall (firsts (2023 ∷ 2 ∷ 0 ∷ 0 ∷ 0 ∷ [])) [])
-unfolding reading
+    (readAs "open 2023-02" ≡ asCall openCall (two yearKey 2023 monthKey 2) [])
+    × (readAs "open 2023 - 2" ≡ asCall openCall (two yearKey 2023 monthKey 2) [])
+    × (readAs "open 0-13" ≡ asCall openCall (two yearKey 0 monthKey 13) [])
+    × (readAs "open 2023-01 billing interval control integral basis agreed power 100"
+    ≡ asCall openCall (firsts (2023 ∷ 1 ∷ 1 ∷ 2 ∷ 1 ∷ 100 ∷ [])) [])
+    × (readAs "OPEN 2023-2 phases 3 cosine 950 volts 400 amperes 63 place 1 currents 10 2*20 basis shared control none billing 7"
+    ≡ asCall openCall (firsts (2023 ∷ 2 ∷ 7 ∷ 0 ∷ 2 ∷ absent ∷ 1 ∷ 63 ∷ 400 ∷ 950 ∷ 3 ∷ 0 ∷ [])) (10 ∷ 20 ∷ 20 ∷ []))
+    × (readAs "open2023-2basis cable power4294967295currents 2*(1 2)"
+    ≡ asCall openCall (set (firsts (2023 ∷ 2 ∷ absent ∷ absent ∷ 3 ∷ 4294967295 ∷ [])) currentsKey 0) (1 ∷ 2 ∷ 1 ∷ 2 ∷ []))
+    × (readAs "open 2023-2 billing none control 0 basis 0" ≡ asCall openCall (firsts (2023 ∷ 2 ∷ 0 ∷ 0 ∷ 0 ∷ [])) [])
+unfolding lineDefinitions
 openings = (refl, refl, refl, refl, refl, refl, refl)
 
 -- the hours and the volume of each meter
 readings :
-    (heard "billing hours 5 7" ≡ said billingHoursCall bare (5 ∷ 7 ∷ []))
-    × (heard "Billing HOURS 4294967295" ≡ said billingHoursCall bare (4294967295 ∷ []))
-    × (heard "billing hours none" ≡ said billingHoursCall bare [])
-    × (heard "billing volume 21000" ≡ said billingVolumeCall (one volumeKey 21000) [])
-    × (heard "billing volume 999999999999999999" ≡ said billingVolumeCall (one volumeKey 999999999999999999) [])
-    × (heard "control hours 1 # a comment" ≡ said controlHoursCall bare (1 ∷ []))
-    × (heard "control volume 0" ≡ said controlVolumeCall (one volumeKey 0) [])
-unfolding reading
+    (readAs "billing hours 5 7" ≡ asCall billingHoursCall bare (5 ∷ 7 ∷ []))
+    × (readAs "Billing HOURS 4294967295" ≡ asCall billingHoursCall bare (4294967295 ∷ []))
+    × (readAs "billing hours none" ≡ asCall billingHoursCall bare [])
+    × (readAs "billing volume 21000" ≡ asCall billingVolumeCall (one volumeKey 21000) [])
+    × (readAs "billing volume 999999999999999999" ≡ asCall billingVolumeCall (one volumeKey 999999999999999999) [])
+    × (readAs "control hours 1 # a comment" ≡ asCall controlHoursCall bare (1 ∷ []))
+    × (readAs "control volume 0" ≡ asCall controlVolumeCall (one volumeKey 0) [])
+unfolding lineDefinitions
 readings = (refl, refl, refl, refl, refl, refl, refl)
 
 -- events, with each word for a source and a reason
 events :
-    (heard "neighbour billing 5" ≡ said neighbourCall (two sourceKey 1 volumeKey 5) [])
-    × (heard "neighbour control 999999999999999999" ≡ said neighbourCall (two sourceKey 2 volumeKey 999999999999999999) [])
-    × (heard "neighbour 7 5" ≡ said neighbourCall (two sourceKey 7 volumeKey 5) [])
-    × (heard "failure fault" ≡ said failureCall (one reasonKey 1) [])
-    × (heard "failure loss" ≡ said failureCall (one reasonKey 2) [])
-    × (heard "failure verification" ≡ said failureCall (one reasonKey 3) [])
-    × (heard "failure removal" ≡ said failureCall (one reasonKey 4) [])
-    × (heard "failure 9" ≡ said failureCall (one reasonKey 9) [])
-    × (heard "admission" ≡ said admissionCall bare [])
-    × (heard " Denial " ≡ said denialCall bare [])
-    × (heard "permission#" ≡ said permissionCall bare [])
-unfolding reading
+    (readAs "neighbour billing 5" ≡ asCall neighbourCall (two sourceKey 1 volumeKey 5) [])
+    × (readAs "neighbour control 999999999999999999" ≡ asCall neighbourCall (two sourceKey 2 volumeKey 999999999999999999) [])
+    × (readAs "neighbour 7 5" ≡ asCall neighbourCall (two sourceKey 7 volumeKey 5) [])
+    × (readAs "failure fault" ≡ asCall failureCall (one reasonKey 1) [])
+    × (readAs "failure loss" ≡ asCall failureCall (one reasonKey 2) [])
+    × (readAs "failure verification" ≡ asCall failureCall (one reasonKey 3) [])
+    × (readAs "failure removal" ≡ asCall failureCall (one reasonKey 4) [])
+    × (readAs "failure 9" ≡ asCall failureCall (one reasonKey 9) [])
+    × (readAs "admission" ≡ asCall admissionCall bare [])
+    × (readAs " Denial " ≡ asCall denialCall bare [])
+    × (readAs "permission#" ≡ asCall permissionCall bare [])
+unfolding lineDefinitions
 events = (refl, refl, refl, refl, refl, refl, refl, refl, refl, refl, refl)
 
 -- numbers, repetitions of a number and of several, a count of 0
 lists :
-    (heard "close 0 1 2 3 255" ≡ said closeCall bare (0 ∷ 1 ∷ 2 ∷ 3 ∷ 255 ∷ []))
-    × (heard "close none" ≡ said closeCall bare [])
-    × (heard "close 3*7 1" ≡ said closeCall bare (7 ∷ 7 ∷ 7 ∷ 1 ∷ []))
-    × (heard "close 2*(1 2*3) 5" ≡ said closeCall bare (1 ∷ 3 ∷ 3 ∷ 1 ∷ 3 ∷ 3 ∷ 5 ∷ []))
-    × (heard "close2*(1)3" ≡ said closeCall bare (1 ∷ 1 ∷ 3 ∷ []))
-    × (heard "close 1 0*9 0*(8) 2" ≡ said closeCall bare (1 ∷ 2 ∷ []))
-    × (heard "close 3*(1 2) 2*(4)" ≡ said closeCall bare (1 ∷ 2 ∷ 1 ∷ 2 ∷ 1 ∷ 2 ∷ 4 ∷ 4 ∷ []))
-    × (heard "close week (24*1) (24*2) 5" ≡ said closeCall bare (5 ∷ []))
+    (readAs "close 0 1 2 3 255" ≡ asCall closeCall bare (0 ∷ 1 ∷ 2 ∷ 3 ∷ 255 ∷ []))
+    × (readAs "close none" ≡ asCall closeCall bare [])
+    × (readAs "close 3*7 1" ≡ asCall closeCall bare (7 ∷ 7 ∷ 7 ∷ 1 ∷ []))
+    × (readAs "close 2*(1 2*3) 5" ≡ asCall closeCall bare (1 ∷ 3 ∷ 3 ∷ 1 ∷ 3 ∷ 3 ∷ 5 ∷ []))
+    × (readAs "close2*(1)3" ≡ asCall closeCall bare (1 ∷ 1 ∷ 3 ∷ []))
+    × (readAs "close 1 0*9 0*(8) 2" ≡ asCall closeCall bare (1 ∷ 2 ∷ []))
+    × (readAs "close 3*(1 2) 2*(4)" ≡ asCall closeCall bare (1 ∷ 2 ∷ 1 ∷ 2 ∷ 1 ∷ 2 ∷ 4 ∷ 4 ∷ []))
+    × (readAs "close week (24*1) (24*2) 5" ≡ asCall closeCall bare (5 ∷ []))
     × (readLine 0 0 (bytes "close 1 2*(5)") (9 ∷ 9 ∷ 9 ∷ 9 ∷ []) (9 ∷ 9 ∷ []) .numbers ≡ 1 ∷ 5 ∷ 5 ∷ 9 ∷ [])
-    × (heardIn 0 0 (bytes "close 4096*1") .line .numbers .count ≡ 4096)
-    × (heardIn 0 0 (bytes "close 4095*1 1 0*1") .line .numbers .count ≡ 4096)
-    × (heardIn 0 0 (bytes "close 2*(2048*1)") .line .numbers .count ≡ 4096)
-    × (heardIn 96 0 (bytes "close 4000*1 week (24*1) (24*1)") .line .numbers .count ≡ 4096)
-unfolding reading
+    × (readIn 0 0 (bytes "close 4096*1") .line .numbers .count ≡ 4096)
+    × (readIn 0 0 (bytes "close 4095*1 1 0*1") .line .numbers .count ≡ 4096)
+    × (readIn 0 0 (bytes "close 2*(2048*1)") .line .numbers .count ≡ 4096)
+    × (readIn 96 0 (bytes "close 4000*1 week (24*1) (24*1)") .line .numbers .count ≡ 4096)
+unfolding lineDefinitions
 lists = (refl, refl, refl, refl, refl, refl, refl, refl, refl, refl, refl, refl, refl)
 
 -- the marks of two days, where the first is a Friday, a Saturday or a Sunday
 abbrev days : ℕ → List ℕ → List ℕ
-days first line = let r : LineRead = heardIn 48 first line in take (r .line .numbers .count) (r .numbers)
+days first line = let r : LineRead = readIn 48 first line in take (r .line .numbers .count) (r .numbers)
 
 abbrev wholeDay : ℕ → List ℕ
 wholeDay v = replicate 24 v
@@ -152,12 +152,12 @@ weeks :
     × (days 6 (bytes "close week (24*1) (24*2)") ≡ wholeDay 2 ++ wholeDay 1)
     × (days 4 (bytes "close 9 week (8*0 3 11*1 4*0) (23*0 2)")
     ≡ 9 ∷ (replicate 8 0 ++ (3 ∷ (replicate 11 1 ++ (replicate 4 0 ++ (replicate 23 0 ++ (2 ∷ [])))))))
-unfolding reading
+unfolding lineDefinitions
 weeks = (refl, refl, refl, refl, refl, refl)
 
 -- the error of a line, and its place
 abbrev fault : List ℕ → List ℕ
-fault line = let r : LineRead = heardIn 0 0 line in r .line .mode ∷ r .line .error ∷ r .line .place ∷ []
+fault line = let r : LineRead = readIn 0 0 line in r .line .mode ∷ r .line .error ∷ r .line .place ∷ []
 
 abbrev error : ℕ → ℕ → List ℕ
 error n place = failedMode ∷ n ∷ place ∷ []
@@ -171,7 +171,7 @@ errors-call :
     × (fault (bytes "verifications") ≡ error callError 0)
     × (fault (bytes "week") ≡ error callError 0)
     × (fault (bytes "-") ≡ error callError 0)
-unfolding reading
+unfolding lineDefinitions
 errors-call = (refl, refl, refl, refl, refl, refl, refl)
 
 -- a number was expected, for a year, a month, a volume and the arguments that are numbers
@@ -191,7 +191,7 @@ errors-number :
     × (fault (bytes "open 2023-1 volts -") ≡ error numberError 18)
     × (fault (bytes "open 2023-1 cosine 5*") ≡ error numberError 19)
     × (fault (bytes "open 2023-1 phases   # 3") ≡ error numberError 21)
-unfolding reading
+unfolding lineDefinitions
 errors-number = (refl, refl, refl, refl, refl, refl, refl, refl, refl, refl, refl, refl, refl, refl, refl)
 
 -- a - was expected, behind a year
@@ -199,7 +199,7 @@ errors-dash :
     (fault (bytes "open 2023 02") ≡ error dashError 10)
     × (fault (bytes "open 2023") ≡ error dashError 9)
     × (fault (bytes "open 2023/02") ≡ error dashError 9)
-unfolding reading
+unfolding lineDefinitions
 errors-dash = (refl, refl, refl)
 
 -- an argument was expected, in an opening
@@ -211,7 +211,7 @@ errors-argument :
     × (fault (bytes "open 2023-1 billing none none") ≡ error argumentError 25)
     × (fault (bytes "open 2023-1 currents 5 none") ≡ error argumentError 23)
     × (fault (bytes "open 2023-1 currents 5 week (24*1) (24*1)") ≡ error argumentError 23)
-unfolding reading
+unfolding lineDefinitions
 errors-argument = (refl, refl, refl, refl, refl, refl, refl)
 
 -- the argument was given already, at the argument's word
@@ -220,7 +220,7 @@ errors-again :
     × (fault (bytes "open 2023-1 billing none control none billing none") ≡ error twiceError 38)
     × (fault (bytes "open 2023-1 currents 5 currents 6") ≡ error twiceError 23)
     × (fault (bytes "open 2023-1 place 0 place") ≡ error twiceError 20)
-unfolding reading
+unfolding lineDefinitions
 errors-again = (refl, refl, refl, refl)
 
 -- a meter was expected
@@ -228,14 +228,14 @@ errors-meter :
     (fault (bytes "open 2023-1 billing agreed") ≡ error meterError 20)
     × (fault (bytes "open 2023-1 control") ≡ error meterError 19)
     × (fault (bytes "open 2023-1 control 5*") ≡ error meterError 20)
-unfolding reading
+unfolding lineDefinitions
 errors-meter = (refl, refl, refl)
 
 -- a basis was expected
 errors-basis :
     (fault (bytes "open 2023-1 basis none") ≡ error basisError 18)
     × (fault (bytes "open 2023-1 basis") ≡ error basisError 17)
-unfolding reading
+unfolding lineDefinitions
 errors-basis = (refl, refl)
 
 -- hours or volume was expected, behind billing or control
@@ -244,7 +244,7 @@ errors-form :
     × (fault (bytes "control") ≡ error formError 7)
     × (fault (bytes "control week") ≡ error formError 8)
     × (fault (bytes "billing volumes 5") ≡ error formError 8)
-unfolding reading
+unfolding lineDefinitions
 errors-form = (refl, refl, refl, refl)
 
 -- a source was expected
@@ -252,7 +252,7 @@ errors-source :
     (fault (bytes "neighbour none 5") ≡ error sourceError 10)
     × (fault (bytes "neighbour") ≡ error sourceError 9)
     × (fault (bytes "neighbour fault 5") ≡ error sourceError 10)
-unfolding reading
+unfolding lineDefinitions
 errors-source = (refl, refl, refl)
 
 -- a reason was expected
@@ -260,7 +260,7 @@ errors-reason :
     (fault (bytes "failure billing") ≡ error reasonError 8)
     × (fault (bytes "failure") ≡ error reasonError 7)
     × (fault (bytes "failure (") ≡ error reasonError 8)
-unfolding reading
+unfolding lineDefinitions
 errors-reason = (refl, refl, refl)
 
 -- a number above its limit or of more than 18 digits, before all other errors of the token
@@ -280,7 +280,7 @@ errors-large :
     × (fault (bytes "admission 0000000000000000001") ≡ error largeError 10)
     × (fault (bytes "close 0000000000000000001*1") ≡ error largeError 6)
     × (fault (bytes "close 4096*0 256") ≡ error largeError 13)
-unfolding reading
+unfolding lineDefinitions
 errors-large = (refl, refl, refl, refl, refl, refl, refl, refl, refl, refl, refl, refl, refl, refl, refl)
 
 -- a part of the list was expected, in a list
@@ -297,7 +297,7 @@ errors-part :
     × (fault (bytes "open 2023-1 currents basis 2") ≡ error partError 21)
     × (fault (bytes "open 2023-1 currents 5 )") ≡ error partError 23)
     × (fault (bytes "close 2*(1))") ≡ error partError 11)
-unfolding reading
+unfolding lineDefinitions
 errors-part = (refl, refl, refl, refl, refl, refl, refl, refl, refl, refl, refl, refl)
 
 -- ( was expected, behind week and behind its first )
@@ -307,7 +307,7 @@ errors-opening :
     × (fault (bytes "close 1 week )") ≡ error dayError 13)
     × (fault (bytes "close week (24*1) 5") ≡ error dayError 18)
     × (fault (bytes "close week (24*1)") ≡ error dayError 17)
-unfolding reading
+unfolding lineDefinitions
 errors-opening = (refl, refl, refl, refl, refl)
 
 -- a number, a count or ) was expected, between parentheses
@@ -321,7 +321,7 @@ errors-item :
     × (fault (bytes "close week ()") ≡ error itemError 12)
     × (fault (bytes "close week (24*1) ()") ≡ error itemError 19)
     × (fault (bytes "close week (12*1 week") ≡ error itemError 17)
-unfolding reading
+unfolding lineDefinitions
 errors-item = (refl, refl, refl, refl, refl, refl, refl, refl, refl)
 
 -- a day has 24 numbers, at the ) of a day
@@ -331,7 +331,7 @@ errors-day :
     × (fault (bytes "close week (24*1) (23*1)") ≡ error dayLengthError 23)
     × (fault (bytes "close week (24*1) (24*1 0)") ≡ error dayLengthError 25)
     × (fault (bytes "close week (0*1)") ≡ error dayLengthError 15)
-unfolding reading
+unfolding lineDefinitions
 errors-day = (refl, refl, refl, refl, refl)
 
 -- a list has at most 4,096 numbers, at the number that is one too many, at a count above 4,096, or at the ) that makes too many
@@ -344,7 +344,7 @@ errors-many :
     × (fault (bytes "close 1 week (4096*1") ≡ error listLengthError 19)
     × (fault (bytes "close 4090*1 week (6*1 1") ≡ error listLengthError 23)
     × (fault (bytes "close 2*(4097*1)") ≡ error listLengthError 9)
-unfolding reading
+unfolding lineDefinitions
 errors-many = (refl, refl, refl, refl, refl, refl, refl, refl)
 
 -- a number was expected, or (, behind a count
@@ -357,7 +357,7 @@ errors-counted :
     × (fault (bytes "close 2*(3*(") ≡ error countedError 11)
     × (fault (bytes "close 2*(3*)") ≡ error countedError 11)
     × (fault (bytes "billing hours 5* *") ≡ error countedError 17)
-unfolding reading
+unfolding lineDefinitions
 errors-counted = (refl, refl, refl, refl, refl, refl, refl, refl)
 
 -- the end was expected, behind a call that is complete
@@ -370,7 +370,7 @@ errors-last :
     × (fault (bytes "neighbour 1 5 6") ≡ error lastError 14)
     × (fault (bytes "close none 5") ≡ error lastError 11)
     × (fault (bytes "billing hours none none") ≡ error lastError 19)
-unfolding reading
+unfolding lineDefinitions
 errors-last = (refl, refl, refl, refl, refl, refl, refl, refl)
 
 -- a byte that is no text, before all other errors of the token; in a comment it is none
@@ -382,12 +382,12 @@ errors-foreign :
     × (fault (bytes "close week" ++ (195 ∷ 164 ∷ [])) ≡ error foreignError 10)
     × (fault (bytes "open x" ++ (200 ∷ [])) ≡ error numberError 5)
     × (fault (bytes "admission # " ++ (200 ∷ [])) ≡ readMode ∷ noError ∷ 0 ∷ [])
-unfolding reading
+unfolding lineDefinitions
 errors-foreign = (refl, refl, refl, refl, refl, refl, refl)
 
 -- a week that makes too many numbers fails at its last )
 errors-week :
-    (heardIn 97 0 (bytes "close 4000*1 week (24*1) (24*1)") .line .error ≡ listLengthError)
-    × (heardIn 97 0 (bytes "close 4000*1 week (24*1) (24*1)") .line .place ≡ 30)
-unfolding reading
+    (readIn 97 0 (bytes "close 4000*1 week (24*1) (24*1)") .line .error ≡ listLengthError)
+    × (readIn 97 0 (bytes "close 4000*1 week (24*1) (24*1)") .line .place ≡ 30)
+unfolding lineDefinitions
 errors-week = (refl, refl)

@@ -6,7 +6,7 @@ use lib.Dec.{eqb, leb}
 use lib.ListN.{length, take, drop}
 use Rattle.numbers.specs.Lists.{tab, at}
 use Rattle.line_reader.specs.declared.Numbers.{Numbers}
-use Rattle.line_reader.specs.Codes.{addNumber, addToGroup, addGroup, addWeek}
+use Rattle.line_reader.specs.Codes.{numberAction, inGroupAction, groupAction, weekAction}
 
 -- the words from one place to another made f's values, where there are such places
 unfoldable pub part : ℕ → ℕ → (ℕ → ℕ) → List ℕ → List ℕ
@@ -25,11 +25,11 @@ placeFor week inner first k =
 
 unfoldable pub writtenNumbers : ℕ → Numbers → Numbers → List ℕ → List ℕ → List ℕ
 writtenNumbers first before after numbers group =
-    cond (eqb (after .action) addNumber) (part (before .count) (after .count) (λ k. after .value) numbers)
-    (cond (eqb (after .action) addToGroup) numbers
-    (cond (leb addGroup (after .action))
-    (part (before .count) (after .count) (λ k. at group (placeFor (eqb (after .action) addWeek) (before .inner) first k)) numbers) numbers))
+    cond (eqb (after .action) numberAction) (part (before .count) (after .count) (λ k. after .value) numbers)
+    (cond (eqb (after .action) inGroupAction) numbers
+    (cond (leb groupAction (after .action))
+    (part (before .count) (after .count) (λ k. at group (placeFor (eqb (after .action) weekAction) (before .inner) first k)) numbers) numbers))
 
 unfoldable pub writtenGroup : Numbers → Numbers → List ℕ → List ℕ
 writtenGroup before after group =
-    cond (eqb (after .action) addToGroup) (part (before .inner) (after .inner) (λ k. after .value) group) group
+    cond (eqb (after .action) inGroupAction) (part (before .inner) (after .inner) (λ k. after .value) group) group

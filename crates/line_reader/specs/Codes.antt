@@ -190,31 +190,31 @@ abbrev pub lastError : ℕ
 lastError = 20
 
 -- the depth of parentheses: outside them, between those of a repetition, of the first day of a week and of its second
-abbrev pub outside : ℕ
-outside = 0
+abbrev pub outsideDepth : ℕ
+outsideDepth = 0
 
-abbrev pub inRepetition : ℕ
-inRepetition = 1
+abbrev pub repetitionDepth : ℕ
+repetitionDepth = 1
 
-abbrev pub inFirstDay : ℕ
-inFirstDay = 2
+abbrev pub firstDayDepth : ℕ
+firstDayDepth = 2
 
-abbrev pub inSecondDay : ℕ
-inSecondDay = 3
+abbrev pub secondDayDepth : ℕ
+secondDayDepth = 3
 
 -- what a token adds to a list: nothing, a number so many times, the same between parentheses, the numbers between parentheses so many
 -- times, the days of a month from the two days of a week
 abbrev pub noAction : ℕ
 noAction = 0
 
-abbrev pub addNumber : ℕ
-addNumber = 1
+abbrev pub numberAction : ℕ
+numberAction = 1
 
-abbrev pub addToGroup : ℕ
-addToGroup = 2
+abbrev pub inGroupAction : ℕ
+inGroupAction = 2
 
-abbrev pub addGroup : ℕ
-addGroup = 3
+abbrev pub groupAction : ℕ
+groupAction = 3
 
-abbrev pub addWeek : ℕ
-addWeek = 4
+abbrev pub weekAction : ℕ
+weekAction = 4

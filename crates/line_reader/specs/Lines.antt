@@ -11,7 +11,7 @@ use Rattle.line_tokens.specs.Kinds.{foreignKind, longKind}
 use Rattle.line_tokens.specs.Tokens.{tokenAt}
 use Rattle.line_reader.specs.declared.Line.{Line}
 use Rattle.line_reader.specs.Codes.{callMode, valueMode, dashMode, argumentMode, formMode, listMode, groupMode, countedMode, dayMode}
-use Rattle.line_reader.specs.Codes.{readMode, failedMode, noCall, yearKey, noError, foreignError, largeError, outside, noAction}
+use Rattle.line_reader.specs.Codes.{readMode, failedMode, noCall, yearKey, noError, foreignError, largeError, outsideDepth, noAction}
 use Rattle.line_reader.specs.Changes.{withError, withNumbers, movedTo, withoutAction}
 use Rattle.line_reader.specs.Names.{absent}
 use Rattle.line_reader.specs.Modes.{inCall, inValue, inDash, inArgument, inForm, inList, inGroup, inCounted, inDay, inLast}
@@ -29,7 +29,7 @@ freshLine =
       key = yearKey;
       values = replicate 15 absent;
       numbers =
-          record { limit = 4294967295; count = 0; inner = 0; times = 0; repeat = 0; depth = outside; fresh = 1; action = noAction; value = 0 };
+          record { limit = 4294967295; count = 0; inner = 0; times = 0; repeat = 0; depth = outsideDepth; fresh = 1; action = noAction; value = 0 };
     }
 
 -- what a token does, by what is expected outside lists

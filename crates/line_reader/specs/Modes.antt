@@ -12,7 +12,8 @@ use Rattle.line_reader.specs.Codes.{readMode, noCall, openCall, billingH
 use Rattle.line_reader.specs.Codes.{neighbourCall, failureCall, admissionCall, permissionCall, closeCall, yearKey, monthKey, phasesKey}
 use Rattle.line_reader.specs.Codes.{currentsKey, sourceKey, reasonKey, volumeKey, noKey, callError, dashError, argumentError, twiceError}
 use Rattle.line_reader.specs.Codes.{formError, largeError, partError, dayError, itemError, dayLengthError, listLengthError, countedError}
-use Rattle.line_reader.specs.Codes.{lastError, outside, inRepetition, inFirstDay, inSecondDay, addNumber, addToGroup, addGroup, addWeek}
+use Rattle.line_reader.specs.Codes.{lastError, outsideDepth, repetitionDepth, firstDayDepth, secondDayDepth, numberAction, inGroupAction}
+use Rattle.line_reader.specs.Codes.{groupAction, weekAction}
 use Rattle.line_reader.specs.Changes.{withMode, withError, asking, withCall, withValue, withNumbers, withLimit, withTimes}
 use Rattle.line_reader.specs.Names.{isWord, callOf, keyOf, absent, wordValue, expectedFor, largestFor}
 
@@ -81,7 +82,7 @@ inLast s t = cond (eqb (t .kind) endKind) (withMode readMode s) (withError lastE
 -- LISTS
 unfoldable pub addedTo : Numbers → ℕ → ℕ → Numbers
 addedTo n times v =
-    let inside : Bool = ltb outside (n .depth) in
+    let inside : Bool = ltb outsideDepth (n .depth) in
     record {
       limit = n .limit;
       count = cond inside (n .count) (min (n .count + times) 4096);
@@ -90,7 +91,7 @@ addedTo n times v =
       repeat = n .repeat;
       depth = n .depth;
       fresh = 0;
-      action = cond inside addToGroup addNumber;
+      action = cond inside inGroupAction numberAction;
       value = v % 4294967296;
     }
 
@@ -100,7 +101,7 @@ adding times s t =
     let n : Numbers = s .numbers in
     cond (ltb (n .limit) (t .value)) (withError largeError (t .from) s)
     (cond (ltb 4096 (n .count + n .inner + times)) (withError listLengthError (t .from) s)
-    (withNumbers (cond (ltb outside (n .depth)) groupMode listMode) (addedTo n times (t .value)) s))
+    (withNumbers (cond (ltb outsideDepth (n .depth)) groupMode listMode) (addedTo n times (t .value)) s))
 
 unfoldable pub counting : Line → Token → Line
 counting s t =
@@ -128,7 +129,7 @@ closedNumbers n count action =
       inner = 0;
       times = n .times;
       repeat = n .repeat;
-      depth = outside;
+      depth = outsideDepth;
       fresh = 0;
       action = action;
       value = n .value;
@@ -138,11 +139,11 @@ closedNumbers n count action =
 unfoldable pub groupClosed : ℕ → Line → Token → Line
 groupClosed hours s t =
     let n : Numbers = s .numbers in
-    let week : Bool = eqb (n .depth) inSecondDay in
+    let week : Bool = eqb (n .depth) secondDayDepth in
     let total : ℕ = n .count + cond week 1 (n .repeat) * cond week hours (n .inner) in
-    cond (eqb (n .depth) inFirstDay) (cond (not (eqb (n .inner) 24)) (withError dayLengthError (t .from) s) (withMode dayMode s))
+    cond (eqb (n .depth) firstDayDepth) (cond (not (eqb (n .inner) 24)) (withError dayLengthError (t .from) s) (withMode dayMode s))
     (cond (week && not (eqb (n .inner) 48)) (withError dayLengthError (t .from) s)
-    (cond (ltb 4096 total) (withError listLengthError (t .from) s) (withNumbers listMode (closedNumbers n total (cond week addWeek addGroup)) s)))
+    (cond (ltb 4096 total) (withError listLengthError (t .from) s) (withNumbers listMode (closedNumbers n total (cond week weekAction groupAction)) s)))
 
 unfoldable pub inGroup : ℕ → Line → Token → Line
 inGroup hours s t =
@@ -168,11 +169,11 @@ openedNumbers n depth =
 unfoldable pub inCounted : Line → Token → Line
 inCounted s t =
     cond (eqb (t .kind) numberKind) (adding (s .numbers .times) s t)
-    (cond (eqb (t .kind) leftKind && eqb (s .numbers .depth) outside)
-    (withNumbers groupMode (openedNumbers (s .numbers) inRepetition) s) (withError countedError (t .from) s))
+    (cond (eqb (t .kind) leftKind && eqb (s .numbers .depth) outsideDepth)
+    (withNumbers groupMode (openedNumbers (s .numbers) repetitionDepth) s) (withError countedError (t .from) s))
 
 -- the ( of the first day of a week, or of the second
 unfoldable pub inDay : Line → Token → Line
 inDay s t =
-    let depth : ℕ = cond (eqb (s .numbers .depth) inFirstDay) inSecondDay inFirstDay in
+    let depth : ℕ = cond (eqb (s .numbers .depth) firstDayDepth) secondDayDepth firstDayDepth in
     cond (eqb (t .kind) leftKind) (withNumbers groupMode (openedNumbers (s .numbers) depth) s) (withError dayError (t .from) s)

@@ -4,7 +4,7 @@ pub const NONE: u32 = 0;
 
 pub const NUMBER: u32 = 1;
 
-pub const TO_GROUP: u32 = 2;
+pub const IN_GROUP: u32 = 2;
 
 pub const GROUP: u32 = 3;
 

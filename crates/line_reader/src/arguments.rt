@@ -3,12 +3,12 @@ ghost use mathlib.Core.Path.{_≡_};
 ghost use Rattle.line_reader.specs.Modes.{begun, inCall, valueTaken, inValue, inDash, valueIn, namedAs, inArgument, inForm, inLast};
 use super::ABSENT;
 use super::ARGUMENT;
-use super::DONE;
 use super::FORM;
 use super::LAST;
 use super::LIST;
 use super::Line;
 use super::MONTH_DASH;
+use super::READ;
 use super::VALUE;
 use super::calls;
 use super::changes::ask;
@@ -63,7 +63,7 @@ pub(crate) fn in_call(s: Line, t: Token) -> Line
     ensures { λ r. ⌜ r ≡ inCall s t ⌝ }
 {
     if t.kind == END {
-        return to_mode(s, DONE);
+        return to_mode(s, READ);
     }
     let call = pick(t.kind == WORD, call_of(t.value), calls::NONE);
     if call == calls::NONE {
@@ -138,7 +138,7 @@ pub(crate) fn in_argument(s: Line, t: Token) -> Line
     ensures { λ r. ⌜ r ≡ inArgument s t ⌝ }
 {
     if t.kind == END {
-        return to_mode(s, DONE);
+        return to_mode(s, READ);
     }
     named(s, t, pick(t.kind == WORD, key_of(t.value), names::NO_KEY))
 }
@@ -162,7 +162,7 @@ pub(crate) fn in_last(s: Line, t: Token) -> Line
     ensures { λ r. ⌜ r ≡ inLast s t ⌝ }
 {
     if t.kind == END {
-        return to_mode(s, DONE);
+        return to_mode(s, READ);
     }
     fail(s, errors::LAST, t.from)
 }

@@ -96,7 +96,7 @@ pub(crate) fn write(
     let action = after.action;
     match action {
         actions::NUMBER => fill_part(numbers, before.count, after.count, after.value),
-        actions::TO_GROUP => fill_part(group, before.inner, after.inner, after.value),
+        actions::IN_GROUP => fill_part(group, before.inner, after.inner, after.value),
         _ => {
             if actions::GROUP <= action {
                 let week = action == actions::WEEK;

@@ -83,7 +83,7 @@ pub const DAY: u32 = 8;
 
 pub const LAST: u32 = 9;
 
-pub const DONE: u32 = 10;
+pub const READ: u32 = 10;
 
 pub const FAILED: u32 = 11;
 
@@ -153,7 +153,7 @@ fn step_in_call(s: Line, t: Token) -> Line
 }
 
 // The line behind a token, with what it adds to the list still to be written.
-fn next(line: &[u8], s: Line, hours: u32) -> Line
+fn next_token(line: &[u8], s: Line, hours: u32) -> Line
     ensures { λ r. ⌜ r ≡ nextToken hours (now (line .entry)) s ⌝ }
 {
     let mut still = s;
@@ -165,7 +165,7 @@ fn next(line: &[u8], s: Line, hours: u32) -> Line
 }
 
 // One token more, and what it adds to the list. A line that is finished stays.
-fn turn(
+fn read_token(
     line: &[u8],
     s: Line,
     hours: u32,
@@ -178,10 +178,10 @@ fn turn(
         ≡ readToken hours first (now (line .entry)) (lineRead s (now (numbers .entry)) (now (group .entry)))
         ⌝ }
 {
-    if DONE <= s.mode {
+    if READ <= s.mode {
         return s;
     }
-    let r = next(line, s, hours);
+    let r = next_token(line, s, hours);
     let before = s.numbers;
     let after = r.numbers;
     write(before, after, first, numbers, group);
@@ -204,11 +204,11 @@ pub fn read_line(
     let mut s = fresh_line();
     let mut left = line.len();
     while 0 < left {
-        if DONE <= s.mode {
+        if READ <= s.mode {
             return s;
         }
-        s = turn(line, s, hours, first, numbers, group);
+        s = read_token(line, s, hours, first, numbers, group);
         left -= 1;
     }
-    turn(line, s, hours, first, numbers, group)
+    read_token(line, s, hours, first, numbers, group)
 }

@@ -5,12 +5,12 @@ ghost use Rattle.line_reader.specs.Modes.{addedTo, adding, counting, wor
 ghost use Rattle.line_reader.specs.Modes.{closedNumbers, groupClosed, inGroup, openedNumbers, inCounted, inDay};
 use super::COUNTED;
 use super::DAY;
-use super::DONE;
 use super::GROUP;
 use super::LAST;
 use super::LIST;
 use super::Line;
 use super::Numbers;
+use super::READ;
 use super::actions;
 use super::arguments::in_argument;
 use super::calls;
@@ -53,7 +53,7 @@ fn add(n: Numbers, times: u32, value: u64) -> Numbers
     let mut r = n;
     let outer = pick(inside, n.count, short(wide(n.count) + wide(times)));
     let inner = pick(inside, short(wide(n.inner) + wide(times)), n.inner);
-    let action = pick(inside, actions::TO_GROUP, actions::NUMBER);
+    let action = pick(inside, actions::IN_GROUP, actions::NUMBER);
     r.count = outer;
     r.inner = inner;
     r.fresh = 0;
@@ -131,7 +131,7 @@ pub(crate) fn in_list(s: Line, t: Token) -> Line
         WORD => word_in_list(s, t),
         _ => {
             if (kind == END) & (s.numbers.fresh != 1) {
-                return to_mode(s, DONE);
+                return to_mode(s, READ);
             }
             fail(s, errors::PART, t.from)
         }

@@ -103,9 +103,9 @@ values = (refl, refl, refl, refl, refl, refl, refl, refl, refl, refl, refl, refl
 abbrev token : ℕ → ℕ → ℕ → ℕ → Token
 token kind value from to = record { kind = kind; value = value; from = from; to = to }
 
-unfoldable reading : Unit {0}
+unfoldable tokenDefinitions : Unit {0}
 unfolding tokenAt tokenFrom numberToken wordToken valueOf grownBy placeBehind byteAt spanFrom leading classOf
-reading = tt
+tokenDefinitions = tt
 
 -- a number; a count, where the * stands directly behind it; 18 digits are a number or count, 19 are too long
 numbers :
@@ -122,7 +122,7 @@ numbers :
     × (tokenAt (bytes " 1000000000000000000 ") 0 ≡ token longKind 1000000000000000000 1 20)
     × (tokenAt (bytes "0000000000000000001") 0 ≡ token longKind 1 0 19)
     × (tokenAt (bytes "0000000000000000001*") 0 ≡ token longKind 1 0 20)
-unfolding reading
+unfolding tokenDefinitions
 numbers = (refl, refl, refl, refl, refl, refl, refl, refl, refl, refl, refl, refl, refl)
 
 -- a word; of 13 letters it has the value 0
@@ -132,7 +132,7 @@ words :
     × (tokenAt (bytes "verification") 0 ≡ token wordKind 798906464178152942 0 12)
     × (tokenAt (bytes "verifications") 0 ≡ token wordKind 0 0 13)
     × (tokenAt (bytes "  abcdefghijklmnop  ") 0 ≡ token wordKind 0 2 18)
-unfolding reading
+unfolding tokenDefinitions
 words = (refl, refl, refl, refl, refl)
 
 -- marks, the end at # and behind the last byte, a byte alone, and a foreign one
@@ -153,5 +153,5 @@ others :
     × (tokenAt (195 ∷ 164 ∷ []) 0 ≡ token foreignKind 0 0 1)
     × (tokenAt (0 ∷ []) 0 ≡ token foreignKind 0 0 1)
     × (tokenAt (10 ∷ []) 0 ≡ token foreignKind 0 0 1)
-unfolding reading
+unfolding tokenDefinitions
 others = (refl, refl, refl, refl, refl, refl, refl, refl, refl, refl, refl, refl, refl, refl, refl, refl)

@@ -28,20 +28,20 @@ returns c =
 
 loop-again : tie.Need-loop-again Inv-loop μ-loop
 loop-again c =
-    let turned = c .before .before .before .before in
-    let here = turned .before .before .before .before .before .before in
+    let behind = c .before .before .before .before in
+    let here = behind .before .before .before .before .before .before in
     let a = here .before .before .before .before .before .args in
     let read = lineRead (here .loop .s) (here .loop .numbers) (here .loop .group) in
     let on = tokens-on (here .loop .left) (a .hours) (a .first) (a .line .now) read (search needs) in
-    (search needs, search needs, rw (turned .turn .ensures, on) (here .loop .inv .2))
+    (search needs, search needs, rw (behind .read-token .ensures, on) (here .loop .inv .2))
 
 returns-2 : tie.Need-returns-2 Inv-loop μ-loop
 unfolding readTokens
 returns-2 c =
-    let turned = c .before .before .before .before in
-    let here = turned .before .before .before .before in
+    let behind = c .before .before .before .before in
+    let here = behind .before .before .before .before in
     let e : here .loop .left ≡ 0 = omega arith in
-    turned .turn2 .ensures ∙ (rw e at (here .loop .inv .2))
+    behind .read-token2 .ensures ∙ (rw e at (here .loop .inv .2))
 
 pub read-line-spec : {M : Type 1} → statement M
 read-line-spec =

@@ -2,12 +2,12 @@ use native.Mathlib.Omega.{arith}
 use borrow.Author.Needs.{needs}
 use lib.ListN.{length}
 use Rattle.line_reader.specs.Buffers.{part}
-use Rattle.line_reader.proofs.Parts.{within, part-made}
+use Rattle.line_reader.proofs.Parts.{part-within, part-made}
 use Rattle.line_reader.proofs.buffers.fill_part.Statement.{statement}
 use Rattle.line_reader.proofs.buffers.fill_part.Tie as tie
 
 sub-fill : tie.Need-sub-fill
-sub-fill c = let a = c .before .before .args in omega (arith, within (a .from) (a .to) (length (a .words .now)) (c .if1 .taken))
+sub-fill c = let a = c .before .before .args in omega (arith, part-within (a .from) (a .to) (length (a .words .now)) (c .if1 .taken))
 
 returns : tie.Need-returns
 returns c =
@@ -24,8 +24,8 @@ fill-part-spec =
     (tie.spec
     (λ c. search needs)
     sub-fill
-    (λ c. let a = c .before .before .args in omega (arith, within (a .from) (a .to) (length (a .words .now)) (c .if1 .taken)))
-    (λ c. let a = c .before .before .args in omega (arith, within (a .from) (a .to) (length (a .words .now)) (c .if1 .taken)))
+    (λ c. let a = c .before .before .args in omega (arith, part-within (a .from) (a .to) (length (a .words .now)) (c .if1 .taken)))
+    (λ c. let a = c .before .before .args in omega (arith, part-within (a .from) (a .to) (length (a .words .now)) (c .if1 .taken)))
     (λ c κs. search needs)
     (λ c. search needs)
     returns

@@ -1,11 +1,11 @@
 use borrow.Author.Needs.{needs}
 use Rattle.line_reader.specs.Lines.{nextToken}
-use Rattle.line_reader.proofs.next.Statement.{statement}
-use Rattle.line_reader.proofs.next.Tie as tie
+use Rattle.line_reader.proofs.next_token.Statement.{statement}
+use Rattle.line_reader.proofs.next_token.Tie as tie
 
-pub next-spec : {M : Type 1} → statement M
+pub next-token-spec : {M : Type 1} → statement M
 unfolding nextToken
-next-spec =
+next-token-spec =
     tie.close
     (tie.spec
     (λ c κs. search needs)
