@@ -8,11 +8,11 @@ use lib.ListN.{take, set, replicate}
 use Rattle.numbers.specs.Lists.{zeros}
 use Rattle.line_tokens.specs.Tokens.{classOf, leading, spanFrom, byteAt, placeBehind, grownBy, valueOf, numberToken, wordToken, tokenFrom, tokenAt}
 use Rattle.line_reader.specs.Codes.{readMode, failedMode, noCall, openCall, billingHoursCall, billingVolumeCall, controlHoursCall}
-use Rattle.line_reader.specs.Codes.{controlVolumeCall, neighbourCall, failureCall, admissionCall, denialCall, permissionCall, closeCall}
-use Rattle.line_reader.specs.Codes.{yearKey, monthKey, currentsKey, sourceKey, reasonKey, volumeKey, noError, foreignError, callError}
-use Rattle.line_reader.specs.Codes.{numberError, dashError, argumentError, twiceError, meterError, basisError, formError, sourceError}
-use Rattle.line_reader.specs.Codes.{reasonError, largeError, partError, dayError, itemError, dayLengthError, listLengthError, countedError}
-use Rattle.line_reader.specs.Codes.{lastError}
+use Rattle.line_reader.specs.Codes.{controlVolumeCall, neighbourCall, failureCall, admissionCall, denialCall, permissionCall}
+use Rattle.line_reader.specs.Codes.{closeCall, yearKey, monthKey, currentsKey, sourceKey, reasonKey, volumeKey, noError}
+use Rattle.line_reader.specs.Codes.{longLineError, foreignError, callError, numberError, dashError, argumentError, twiceError}
+use Rattle.line_reader.specs.Codes.{meterError, basisError, formError, sourceError, reasonError, largeError, partError, dayError}
+use Rattle.line_reader.specs.Codes.{itemError, dayLengthError, listLengthError, countedError, lastError}
 use Rattle.line_reader.specs.Names.{callOf, keyOf, absent, contractWord, eventWord, wordValue, expectedFor, largestFor}
 use Rattle.line_reader.specs.Modes.{begun, inCall, valueTaken, inValue, inDash, valueIn, namedAs, inArgument, inForm, inLast, addedTo}
 use Rattle.line_reader.specs.Modes.{adding, counting, wordIn, inList, closedNumbers, groupClosed, inGroup, openedNumbers, inCounted, inDay}
@@ -65,6 +65,23 @@ one key v = set bare key v
 
 abbrev two : ℕ → ℕ → ℕ → ℕ → List ℕ
 two key v key′ v′ = set (one key v) key′ v′
+
+-- the calls and the errors by their numbers, which the answers for programs have (docs/HISTORY-FILE.md)
+abbrev calls : List ℕ
+calls =
+    noCall ∷ openCall ∷ billingHoursCall ∷ billingVolumeCall ∷ controlHoursCall ∷ controlVolumeCall ∷ neighbourCall ∷ failureCall
+    ∷ admissionCall ∷ denialCall ∷ permissionCall ∷ closeCall ∷ []
+
+abbrev errors : List ℕ
+errors =
+    noError ∷ longLineError ∷ foreignError ∷ callError ∷ numberError ∷ dashError ∷ argumentError ∷ twiceError ∷ meterError
+    ∷ basisError ∷ formError ∷ sourceError ∷ reasonError ∷ largeError ∷ partError ∷ dayError ∷ itemError ∷ dayLengthError
+    ∷ listLengthError ∷ countedError ∷ lastError ∷ []
+
+numbered :
+    (calls ≡ 0 ∷ 1 ∷ 2 ∷ 3 ∷ 4 ∷ 5 ∷ 6 ∷ 7 ∷ 8 ∷ 9 ∷ 10 ∷ 11 ∷ [])
+    × (errors ≡ 0 ∷ 1 ∷ 2 ∷ 3 ∷ 4 ∷ 5 ∷ 6 ∷ 7 ∷ 8 ∷ 9 ∷ 10 ∷ 11 ∷ 12 ∷ 13 ∷ 14 ∷ 15 ∷ 16 ∷ 17 ∷ 18 ∷ 19 ∷ 20 ∷ [])
+numbered = (refl, refl)
 
 -- a blank line and comments are no call
 no-calls :

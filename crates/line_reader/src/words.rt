@@ -1,4 +1,4 @@
-// The words of a history file by their values: letters in base 32, a 1 to z 26, as `tokens` reads them. The specifications
+// The words of a history file by their values: letters in base 32, a 1 to z 26, as `line_tokens` reads them. The specifications
 // spell them out.
 pub const OPEN: u64 = 508078;
 
