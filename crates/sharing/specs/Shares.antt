@@ -81,11 +81,12 @@ chosenAt chosen h = getD chosen h false
 abbrev pub otherAt : List Bool → ℕ → Bool
 otherAt chosen = others (chosenAt chosen)
 
--- THE LIMITS of the functions, so that every number fits: a volume of at most 744 × 1,000,000 kWh, 1 to 744 hours and a buffer that holds them
+-- THE LIMITS of the functions, which share the volume of a month: at most 744 × 1,000,000 kWh, 1 to 744 hours and a buffer that holds
+-- them. The laws need none of these
 unfoldable pub monthFits : ℕ → ℕ → ℕ → Bool
 monthFits v t room = leb v greatestVolumeRead && leb 1 t && leb t 744 && leb t room
 
--- and weights that sum to at most 744 × 3,000,000
+-- and weights that sum to at most 744 × 3,000,000, so that a volume times a sum of weights fits 64 bits
 unfoldable pub weightsFit : ℕ → Bool
 weightsFit s = leb s greatestMonthVolume
 
