@@ -103,10 +103,10 @@ unfolding openHours
 open-low d h =
     by-cases (isEnd d) (λ t. rw t (lit≤ tt)) (λ f. rw f (hours-low d (first-of (isMonth d) (isEnd d) h f)))
 
--- T of an open month is at most 744
-pub open-high : (d : Date) → isOpen d ≡ true → openHours d ≤ 744
+-- T is at most 744, whatever the date
+pub open-high : (d : Date) → openHours d ≤ 744
 unfolding openHours
-open-high d h = by-cases (isEnd d) (λ t. rw t (lit≤ tt)) (λ f. rw f (hours-high d))
+open-high d = by-cases (isEnd d) (λ t. rw t (lit≤ tt)) (λ f. rw f (hours-high d))
 
 -- the number of a month that is calculated
 pub number-limits : (d : Date) → isMonth d ≡ true → (24169 ≤ monthNumber d) × (monthNumber d ≤ 36000)

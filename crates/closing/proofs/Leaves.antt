@@ -94,12 +94,12 @@ figures-are : (u : Outcome) (marks : List ℕ) (t : ℕ) {f : Found} {hours : Li
     → c .0 ≡ capacitySum marks hours → d ≡ daysIn marks
     → g ≡ record { ground = f .ground; volume = f .volume; capacity = record { 0 = capacityIn (c .0) d }; sum = c; days = d } → g ≡ figures u marks
 unfolding figures
-figures-are u marks t {hours = hours} {c = c} right few gives total days e =
+figures-are u marks t {hours = hours} {c = c} right few found total days e =
     let long : length (u .hours) ≤ 744 = omega (arith, right .long) in
-    let over : capacitySum marks hours ≡ capacitySum marks (u .hours) = rw (gives .hours) (capacity-row marks (u .hours)) in
+    let over : capacitySum marks hours ≡ capacitySum marks (u .hours) = rw (found .hours) (capacity-row marks (u .hours)) in
     let same : c .0 ≡ capacitySum marks (u .hours) = total ∙ over in
     let small : capacitySum marks (u .hours) ≤ 4294967295 = omega (arith, capacity-within marks (u .hours) long, right .sums, right .most) in
-    e ∙ rw (same, days, gives .ground, gives .volume, capacity-uncut (capacitySum marks (u .hours)) (daysIn marks) small)
+    e ∙ rw (same, days, found .ground, found .volume, capacity-uncut (capacitySum marks (u .hours)) (daysIn marks) small)
 
 pub closed-does : (s : State) (marks buffer : List ℕ) {number t : ℕ} → number ≡ refusal s (closing marks buffer) → number ≡ 0
     → Right t (rules (inputs s marks)) → t ≤ 744
@@ -110,13 +110,13 @@ pub closed-does : (s : State) (marks buffer : List ℕ) {number t : ℕ} → num
     → store ≡ storeAfter new hours (s .point .date) (s .store)
     → Does s (closing marks buffer) (record { refusal = 0; after = r; figures = g }) store hours
 unfolding answer leaves bufferAfter figuresOf hoursOut accept closedWith becomesPast
-closed-does s marks buffer e z right few {new = n} gives total days figs past after left =
+closed-does s marks buffer e z right few {new = n} found total days figs past after left =
     let t = is-accepted s (closing marks buffer) e z in
     let none : refusal s (closing marks buffer) ≡ 0 = sym e ∙ z in
     let u = rules (inputs s marks) in
-    let new : n ≡ becomesPast u = past ∙ rw (gives .ground) in
+    let new : n ≡ becomesPast u = past ∙ rw (found .ground) in
     record {
-      answered = rw (t, none, ← figures-are u marks _ right few gives total days figs, after, new, gives .volume);
-      left = left ∙ rw (t, new, gives .hours) (store-left u s (omega (arith, right .long)));
-      buffered = rw t (gives .hours);
+      answered = rw (t, none, ← figures-are u marks _ right few found total days figs, after, new, found .volume);
+      left = left ∙ rw (t, new, found .hours) (store-left u s (omega (arith, right .long)));
+      buffered = rw t (found .hours);
     }

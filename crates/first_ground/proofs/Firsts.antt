@@ -43,81 +43,84 @@ neighbour-is g h =
 
 module _ (i : Inputs) {f : Found} {buffer : List ℕ} where
   -- GROUNDS 8 AND 9
-  pub nine-gives : i .contract .basis ≡ 3 → {t : ℕ} → t ≡ openHours (i .date)
+  pub nine-outcome : i .contract .basis ≡ 3 → {t : ℕ} → t ≡ openHours (i .date)
       → HoursFound 9 (formula (i .contract .cable) t) (shares (formula (i .contract .cable) t) (ones t)) f buffer → OutcomeFound (byContract i) f buffer
   unfolding byContract evenly byWeights
-  nine-gives b e h = rw (eq-eqb (i .contract .basis) 3 b) (rw e at h)
+  nine-outcome b e h = rw (eq-eqb (i .contract .basis) 3 b) (rw e at h)
 
-  pub eight-gives : i .contract .basis ≢ 3 → {t : ℕ} → t ≡ openHours (i .date)
+  pub eight-outcome : i .contract .basis ≢ 3 → {t : ℕ} → t ≡ openHours (i .date)
       → HoursFound 8 (t * i .contract .power .0) (shares (t * i .contract .power .0) (ones t)) f buffer → OutcomeFound (byContract i) f buffer
   unfolding byContract evenly byWeights powerOf
-  eight-gives b e h = rw (ne-eqb (i .contract .basis) 3 b) (rw e at h)
+  eight-outcome b e h = rw (ne-eqb (i .contract .basis) 3 b) (rw e at h)
 
   -- GROUND 7, else 8 and 9
-  pub seven-gives : (hs : List ℕ) → i .past ≡ pastHours hs → i .counted ≤ 2 → {t : ℕ} → t ≡ openHours (i .date)
+  pub seven-outcome : (hs : List ℕ) → i .past ≡ pastHours hs → i .counted ≤ 2 → {t : ℕ} → t ≡ openHours (i .date)
       → HoursFound 7 (sum (stretched hs t)) (stretched hs t) f buffer → OutcomeFound (onPast i (i .past)) f buffer
   unfolding onPast asRead
-  seven-gives hs past few e h = subst (λ (x : PastHours). OutcomeFound (onPast i x) f buffer) (sym past) (rw (le-leb (i .counted) 2 few) (rw e at h))
+  seven-outcome hs past few e h = subst (λ (x : PastHours). OutcomeFound (onPast i x) f buffer) (sym past) (rw (le-leb (i .counted) 2 few) (rw e at h))
 
-  pub late-gives : (hs : List ℕ) → i .past ≡ pastHours hs → 2 < i .counted → OutcomeFound (byContract i) f buffer
+  pub late-outcome : (hs : List ℕ) → i .past ≡ pastHours hs → 2 < i .counted → OutcomeFound (byContract i) f buffer
       → OutcomeFound (onPast i (i .past)) f buffer
   unfolding onPast
-  late-gives hs past many h = subst (λ (x : PastHours). OutcomeFound (onPast i x) f buffer) (sym past) (rw (lt-leb (i .counted) 2 many) h)
+  late-outcome hs past many h = subst (λ (x : PastHours). OutcomeFound (onPast i x) f buffer) (sym past) (rw (lt-leb (i .counted) 2 many) h)
 
-  pub none-gives : i .past ≡ noPastHours → OutcomeFound (byContract i) f buffer → OutcomeFound (onPast i (i .past)) f buffer
+  pub none-outcome : i .past ≡ noPastHours → OutcomeFound (byContract i) f buffer → OutcomeFound (onPast i (i .past)) f buffer
   unfolding onPast
-  none-gives past h = subst (λ (x : PastHours). OutcomeFound (onPast i x) f buffer) (sym past) h
+  none-outcome past h = subst (λ (x : PastHours). OutcomeFound (onPast i x) f buffer) (sym past) h
 
   -- GROUNDS 4 TO 6, of the volume v
-  pub five-gives : (v : ℕ) → i .past ≡ noPastHours → HoursFound 5 v (peakRule v (pointPower i) (i .marks)) f buffer
+  pub five-outcome : (v : ℕ) → i .past ≡ noPastHours → HoursFound 5 v (peakRule v (pointPower i) (i .marks)) f buffer
       → OutcomeFound (onControlPast i v (i .past)) f buffer
   unfolding onControlPast byPeaks
-  five-gives v past h = subst (λ (x : PastHours). OutcomeFound (onControlPast i v x) f buffer) (sym past) h
+  five-outcome v past h = subst (λ (x : PastHours). OutcomeFound (onControlPast i v x) f buffer) (sym past) h
 
-  pub four-gives : (v : ℕ) (hs : List ℕ) → i .past ≡ pastHours hs → i .counted ≤ 2 → {t : ℕ} → t ≡ openHours (i .date)
+  pub four-outcome : (v : ℕ) (hs : List ℕ) → i .past ≡ pastHours hs → i .counted ≤ 2 → {t : ℕ} → t ≡ openHours (i .date)
       → HoursFound 4 v (shares v (stretched hs t)) f buffer → OutcomeFound (onControlPast i v (i .past)) f buffer
   unfolding onControlPast byWeights
-  four-gives v hs past few e h = subst (λ (x : PastHours). OutcomeFound (onControlPast i v x) f buffer) (sym past) (rw (le-leb (i .counted) 2 few) (rw e at h))
+  four-outcome v hs past few e h =
+      subst (λ (x : PastHours). OutcomeFound (onControlPast i v x) f buffer) (sym past) (rw (le-leb (i .counted) 2 few) (rw e at h))
 
-  pub six-gives : (v : ℕ) (hs : List ℕ) → i .past ≡ pastHours hs → 2 < i .counted
+  pub six-outcome : (v : ℕ) (hs : List ℕ) → i .past ≡ pastHours hs → 2 < i .counted
       → groundSixIn i v (shares v (stretched hs (openHours (i .date)))) ≡ true
       → HoursFound 6 v (shares v (stretched hs (openHours (i .date)))) f buffer → OutcomeFound (onControlPast i v (i .past)) f buffer
   unfolding onControlPast byWeights
-  six-gives v hs past many fits h = subst (λ (x : PastHours). OutcomeFound (onControlPast i v x) f buffer) (sym past) (rw (lt-leb (i .counted) 2 many, fits) h)
+  six-outcome v hs past many fits h =
+      subst (λ (x : PastHours). OutcomeFound (onControlPast i v x) f buffer) (sym past) (rw (lt-leb (i .counted) 2 many, fits) h)
 
-  pub later-gives : (v : ℕ) (hs : List ℕ) → i .past ≡ pastHours hs → 2 < i .counted
+  pub later-outcome : (v : ℕ) (hs : List ℕ) → i .past ≡ pastHours hs → 2 < i .counted
       → groundSixIn i v (shares v (stretched hs (openHours (i .date)))) ≡ false
       → HoursFound 5 v (peakRule v (pointPower i) (i .marks)) f buffer → OutcomeFound (onControlPast i v (i .past)) f buffer
   unfolding onControlPast byPeaks
-  later-gives v hs past many not h = subst (λ (x : PastHours). OutcomeFound (onControlPast i v x) f buffer) (sym past) (rw (lt-leb (i .counted) 2 many, not) h)
+  later-outcome v hs past many not h =
+      subst (λ (x : PastHours). OutcomeFound (onControlPast i v x) f buffer) (sym past) (rw (lt-leb (i .counted) 2 many, not) h)
 
   -- GROUND 3, else 4 to 9
-  pub three-gives : (hs : List ℕ) → i .control ≡ hourly hs → HoursFound 3 (sum hs) hs f buffer → OutcomeFound (onControl i (i .control)) f buffer
+  pub three-outcome : (hs : List ℕ) → i .control ≡ hourly hs → HoursFound 3 (sum hs) hs f buffer → OutcomeFound (onControl i (i .control)) f buffer
   unfolding onControl asRead
-  three-gives hs e h = subst (λ (x : Measured). OutcomeFound (onControl i x) f buffer) (sym e) h
+  three-outcome hs e h = subst (λ (x : Measured). OutcomeFound (onControl i x) f buffer) (sym e) h
 
-  pub volume-gives : (k : ℕ) → i .control ≡ whole k → OutcomeFound (onControlPast i (k - i .neighbour) (i .past)) f buffer
+  pub volume-outcome : (k : ℕ) → i .control ≡ whole k → OutcomeFound (onControlPast i (k - i .neighbour) (i .past)) f buffer
       → OutcomeFound (onControl i (i .control)) f buffer
   unfolding onControl
-  volume-gives k e h = subst (λ (x : Measured). OutcomeFound (onControl i x) f buffer) (sym e) h
+  volume-outcome k e h = subst (λ (x : Measured). OutcomeFound (onControl i x) f buffer) (sym e) h
 
-  pub past-gives : i .control ≡ missing → OutcomeFound (onPast i (i .past)) f buffer → OutcomeFound (onControl i (i .control)) f buffer
+  pub past-outcome : i .control ≡ missing → OutcomeFound (onPast i (i .past)) f buffer → OutcomeFound (onControl i (i .control)) f buffer
   unfolding onControl
-  past-gives e h = subst (λ (x : Measured). OutcomeFound (onControl i x) f buffer) (sym e) h
+  past-outcome e h = subst (λ (x : Measured). OutcomeFound (onControl i x) f buffer) (sym e) h
 
   -- GROUNDS 1 AND 2, else 3 to 9
-  pub one-gives : (hs : List ℕ) → i .billing ≡ hourly hs → HoursFound 1 (sum hs) hs f buffer → OutcomeFound (rules i) f buffer
+  pub one-outcome : (hs : List ℕ) → i .billing ≡ hourly hs → HoursFound 1 (sum hs) hs f buffer → OutcomeFound (rules i) f buffer
   unfolding rules onBilling asRead
-  one-gives hs e h = subst (λ (x : Measured). OutcomeFound (onBilling i x) f buffer) (sym e) h
+  one-outcome hs e h = subst (λ (x : Measured). OutcomeFound (onBilling i x) f buffer) (sym e) h
 
-  pub two-gives : (b : ℕ) → i .billing ≡ whole b
+  pub two-outcome : (b : ℕ) → i .billing ≡ whole b
       → HoursFound 2 (b - i .neighbour) (peakRule (b - i .neighbour) (pointPower i) (i .marks)) f buffer → OutcomeFound (rules i) f buffer
   unfolding rules onBilling byPeaks
-  two-gives b e h = subst (λ (x : Measured). OutcomeFound (onBilling i x) f buffer) (sym e) h
+  two-outcome b e h = subst (λ (x : Measured). OutcomeFound (onBilling i x) f buffer) (sym e) h
 
-  pub control-gives : i .billing ≡ missing → OutcomeFound (onControl i (i .control)) f buffer → OutcomeFound (rules i) f buffer
+  pub control-outcome : i .billing ≡ missing → OutcomeFound (onControl i (i .control)) f buffer → OutcomeFound (rules i) f buffer
   unfolding rules onBilling
-  control-gives e h = subst (λ (x : Measured). OutcomeFound (onBilling i x) f buffer) (sym e) h
+  control-outcome e h = subst (λ (x : Measured). OutcomeFound (onBilling i x) f buffer) (sym e) h
 
 -- THE INPUTS, as the record tells them
 pub inputs-past : (r : Record) (store marks : List ℕ) (p : PastMonth) → PastFound r p → p .found ≡ true

@@ -1,5 +1,5 @@
 -- What a closing that is accepted knows of its record, store, marks and hour buffer. Assumes nothing.
-use Prim.Native.Nat.{ℕ, zero, suc, _*_, _/_, _≤_}
+use Prim.Native.Nat.{ℕ, zero, suc, _/_, _≤_}
 use mathlib.Core.Path.{_≡_, refl, _∙_}
 use mathlib.Core.Bool.{Bool, true, not, cond}
 use mathlib.Core.List.{List, [], _∷_}
@@ -12,14 +12,14 @@ use Rattle.numbers.specs.Lists.{sumTo, countTo, sum, at}
 use Rattle.numbers.proofs.Laws.{cond-most, sum-same, sum-most, sum-stop, sum-at}
 use Rattle.calendar.specs.declared.Date.{Date}
 use Rattle.calendar.specs.Calendar.{isMonth, openHours}
-use Rattle.calendar.proofs.Laws.{days-low, days-high, month-hours}
+use Rattle.calendar.proofs.Laws.{days-low, month-hours, open-high}
 use Rattle.units.specs.Volumes.{greatestVolumeRead, greatestTotal}
 use Rattle.power.specs.Power.{cableFits}
 use Rattle.marks.specs.Marks.{capacityAt, peakCount, dayOf, isWorking, workingDays, surveyWith, surveyOf, capacitySum}
 use Rattle.marks.proofs.Laws.{survey-peaks, peaks-most}
 use Rattle.record.specs.declared.Record.{Record}
 use Rattle.validity.specs.Valid.{valid, volumeLimit, readingTests, allOf}
-use Rattle.validity.proofs.Laws.{each-test, valid-parts, service-parts, readings-parts}
+use Rattle.validity.proofs.Laws.{valid-parts, service-parts, readings-parts}
 use Rattle.record.specs.declared.Reading.{Reading}
 use Rattle.store.specs.Store.{asRow, storeFits}
 use Rattle.store.proofs.Laws.{at-row}
@@ -27,7 +27,7 @@ use Rattle.rules.specs.Calls.{closing}
 use Rattle.rules.specs.Right.{InputsFit}
 use Rattle.model.specs.Model.{state, inputs, accepted}
 use Rattle.model.proofs.Keeps.{call-passed, open-month}
-use Rattle.model.proofs.Closes.{settled, inputs-fit}
+use Rattle.model.proofs.Closes.{settled, volume-most, inputs-fit}
 use Rattle.grounds.specs.Found.{BuffersFit}
 
 pub record Known (r : Record) (store marks buffer : List ℕ) : Type 0 where
@@ -45,12 +45,9 @@ pub record Known (r : Record) (store marks buffer : List ℕ) : Type 0 where
   pub total : r .total .0 ≤ greatestTotal
 
 -- a reading's volume within its limit fits a month
-volume-most : (d : Date) (g : Reading) (has whole : Bool) → openHours d ≤ 744 → allOf (readingTests g has whole (volumeLimit d)) ≡ true
+reading-most : (d : Date) (g : Reading) (has whole : Bool) → allOf (readingTests g has whole (volumeLimit d)) ≡ true
     → g .volume .0 ≤ greatestVolumeRead
-unfolding volumeLimit
-volume-most d g has whole few h =
-    let l : g .volume .0 ≤ openHours d * 1000000 = leb-true _ _ (each-test (readingTests g has whole (openHours d * 1000000)) h .1 .1 .1 .0) in
-    omega arith
+reading-most d g has whole h = omega (arith, volume-most d g has whole h, open-high d)
 
 pub known : (r : Record) (store marks buffer : List ℕ) → accepted (state r store) (closing marks buffer) ≡ true → Known r store marks buffer
 unfolding inputs
@@ -63,18 +60,17 @@ known r store marks buffer t =
     let g = readings-parts (r .readings) (r .contract) (volumeLimit (r .date)) (v .readings) in
     let m = open-month r (o .sound) (o .notOver) in
     let e = month-hours (r .date) m in
-    let few : openHours (r .date) ≤ 744 = omega (arith, e, days-high (r .date)) in
     record {
       sound = o .sound;
       month = m;
       fit = fit;
-      buffers = record { words = o .size; room = q .room; some = omega (arith, e, days-low (r .date) m); few = few };
+      buffers = record { words = o .size; room = q .room; some = omega (arith, e, days-low (r .date) m); few = open-high (r .date) };
       long = q .long;
       fits = q .fits;
       cable = λ b. fit .cable (eq-eqb _ _ b);
       power = fit .power;
-      billing = volume-most (r .date) (r .readings .billing) true _ few (g .billing);
-      control = volume-most (r .date) (r .readings .control) (not (eqb (r .contract .control) 0)) _ few (g .control);
+      billing = reading-most (r .date) (r .readings .billing) true _ (g .billing);
+      control = reading-most (r .date) (r .readings .control) (not (eqb (r .contract .control) 0)) _ (g .control);
       run = service-parts (r .service) (r .date) (v .service) .run;
       total = leb-true _ _ (v .total);
     }

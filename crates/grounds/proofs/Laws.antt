@@ -1,4 +1,4 @@
--- How each way of finding hours hands them out. Assumes nothing.
+-- What each way of finding hours finds. Assumes nothing.
 use Prim.Native.Nat.{ℕ, _+_, _-_, _*_, _≤_, _<_}
 use mathlib.Core.Path.{_≡_, refl, _∙_}
 use mathlib.Core.Bool.{Bool, true, false, _&&_}
@@ -134,12 +134,12 @@ even-found g v t buffer small some few room s =
 
 -- THE VOLUMES OF GROUNDS 8 AND 9
 -- a volume of at most 1,000,000 an hour fits a month
-month-most : (v t : ℕ) → t ≤ 744 → v ≤ 1000000 * t → v ≤ greatestVolumeRead
-month-most v t few l = omega arith
+month-within : (v t : ℕ) → t ≤ 744 → v ≤ 1000000 * t → v ≤ greatestVolumeRead
+month-within v t few l = omega arith
 
 pub agreed-most : (t p : ℕ) {v : ℕ} → v ≡ t * p → p ≤ 1000000 → t ≤ 744 → v ≤ greatestVolumeRead
-agreed-most t p e small few = month-most _ t few (rw (e, mul-comm t p) (mul-le-mul small (omega arith)))
+agreed-most t p e small few = month-within _ t few (rw (e, mul-comm t p) (mul-le-mul small (omega arith)))
 
 pub cable-most : (k : Cable) (t : ℕ) {v : ℕ} → v ≡ formulaIn k t → cableFits k ≡ true → t ≤ 744 → v ≤ greatestVolumeRead
 cable-most k t e fits few =
-    month-most _ t few (rw (e, formula-in k t fits (omega arith)) (formula-most k t fits))
+    month-within _ t few (rw (e, formula-in k t fits (omega arith)) (formula-most k t fits))

@@ -7,10 +7,9 @@ use native.Mathlib.Omega.{arith}
 use borrow.Author.Tests.{eq-eqb, ne-eqb, leb-true, le-leb}
 use lib.Dec.{leb, ltb, lit≤}
 use Rattle.numbers.specs.Lists.{at}
-use Rattle.numbers.proofs.Laws.{by-cases, both}
-use Rattle.calendar.specs.declared.Date.{Date}
-use Rattle.calendar.specs.Calendar.{isEnd, openHours, isMonthNumber, monthNumber, dateOf, dateIn}
-use Rattle.calendar.proofs.Laws.{hours-high, OpenLimits, open-limits}
+use Rattle.numbers.proofs.Laws.{both}
+use Rattle.calendar.specs.Calendar.{isMonthNumber, monthNumber, dateOf, dateIn}
+use Rattle.calendar.proofs.Laws.{open-high, OpenLimits, open-limits}
 use Rattle.record.specs.declared.Record.{Record}
 use Rattle.validity.specs.Valid.{valid}
 use Rattle.validity.proofs.Laws.{valid-parts, past-parts}
@@ -31,11 +30,6 @@ month-some r v = omega (arith, month-limits r v)
 pub row-some : (r : Record) → valid r ≡ true → r .date .month - 1 < 12
 row-some r v = omega (arith, month-limits r v)
 
--- no month has more than 744 hours
-pub open-most : (d : Date) → openHours d ≤ 744
-unfolding openHours
-open-most d = by-cases (isEnd d) (λ t. rw t (lit≤ tt)) (λ f. rw f (hours-high d))
-
 -- the month of the latest past
 pub latest-date : (r : Record) → valid r ≡ true → r .past .latest ≢ 0 → dateIn (r .past .latest) ≡ dateOf (r .past .latest)
 unfolding dateIn
@@ -52,7 +46,7 @@ pub found-year : (r : Record) → valid r ≡ true → at (r .past .years) (r .d
 unfolding pastIn hoursFrom
 found-year r v e = record {
   same = λ store. rw (eq-eqb _ _ e);
-  fits = record { row = omega (arith, month-limits r v); short = open-most (lastYear (r .date)) };
+  fits = record { row = omega (arith, month-limits r v); short = open-high (lastYear (r .date)) };
 }
 
 -- no past
@@ -70,7 +64,7 @@ pub found-latest : (r : Record) → at (r .past .years) (r .date .month - 1) ≢
 unfolding pastIn hoursFrom dateOf
 found-latest r n z = record {
   same = λ store. rw (ne-eqb (at (r .past .years) (r .date .month - 1)) (r .date .year - 1) n, ne-eqb (r .past .latest) 0 z);
-  fits = record { row = omega arith; short = open-most (dateOf (r .past .latest)) };
+  fits = record { row = omega arith; short = open-high (dateOf (r .past .latest)) };
 }
 
 -- its month is one of the twelve

@@ -13,6 +13,7 @@ use Rattle.numbers.specs.Lists.{tab}
 use Rattle.numbers.proofs.Laws.{by-cases, tab-same}
 use Rattle.calendar.specs.declared.Date.{Date}
 use Rattle.calendar.specs.Calendar.{isMonth, openHours, nextMonth}
+use Rattle.calendar.proofs.Laws.{open-high}
 use Rattle.contract.specs.Contract.{kept}
 use Rattle.record.specs.Record.{kwh, noReadings}
 use Rattle.rules.specs.Calls.{Opening, Call, billingHours, controlHours, billingVolume, controlVolume, neighbour, failure, admission, denial}
@@ -27,7 +28,7 @@ use Rattle.model.proofs.GoesOn.{call-sound}
 use Rattle.history.specs.Book.{Book, monthOf, denialsOf, runOf, volumes, inputsOf}
 use Rattle.history.proofs.Rows.{Holds, replacedAt, holds-same, holds-put, set-tab}
 use Rattle.history.proofs.View.{servingOf, faultOf, latestOf, yearIn, contents, pointOf, seen, lookBacks, OfItsMeter, MonthsClosed, Shows, as-seen}
-use Rattle.history.proofs.Inputs.{hours-most, inputs-same}
+use Rattle.history.proofs.Inputs.{inputs-same}
 use Rattle.history.proofs.Steps.{entry, step-billing-hours, step-control-hours, step-billing-volume, step-control-volume, step-neighbour}
 use Rattle.history.proofs.Steps.{step-failure, step-admission, step-denial, step-permission}
 
@@ -101,7 +102,7 @@ module _ (o : Opening) (es : Book) (store : List ℕ) (h : Shows o es (seen o es
         (holds-put 13 [] (lit≤ tt) (lit≤ tt)
         (holds-put 12 [] (lit≤ tt) (lit≤ tt)
         (by-cases (becomesPast u)
-        (λ y. rw y (holds-put (rowOf d) (u .hours) (omega (arith, row-few d month)) (omega (arith, work-right .long, hours-most d)) (h .rows)))
+        (λ y. rw y (holds-put (rowOf d) (u .hours) (omega (arith, row-few d month)) (omega (arith, work-right .long, open-high d)) (h .rows)))
         (λ n. rw n (h .rows)))))
 
     step-closing : Shows o (entry o es (closing marks buffer) ∷ es) (accept (seen o es store) (closing marks buffer))

@@ -74,25 +74,25 @@ module _ (s : State) (t : Turn) (ts : List Turn) (does : Does (stateAfter s ts) 
   unfolding answer
   number = ap (λ (x : Answer). x .refusal) (does .answered)
 
-  took-is : wasAccepted t ≡ accepted (stateAfter s ts) (t .call)
+  accepted-is : wasAccepted t ≡ accepted (stateAfter s ts) (t .call)
   unfolding wasAccepted accepted
-  took-is = ap (λ (n : ℕ). eqb n 0) number
+  accepted-is = ap (λ (n : ℕ). eqb n 0) number
 
-  left-is : stateAfter s (t ∷ ts) ≡ leaves (stateAfter s ts) (t .call)
+  state-is : stateAfter s (t ∷ ts) ≡ leaves (stateAfter s ts) (t .call)
   unfolding stateAfter answer
-  left-is = λ i. state (does .answered i .after) (does .left i)
+  state-is = λ i. state (does .answered i .after) (does .left i)
 
-  left-refused : wasAccepted t ≡ false → stateAfter s (t ∷ ts) ≡ stateAfter s ts
+  state-refused : wasAccepted t ≡ false → stateAfter s (t ∷ ts) ≡ stateAfter s ts
   unfolding leaves
-  left-refused f = left-is ∙ rw (sym took-is ∙ f)
+  state-refused f = state-is ∙ rw (sym accepted-is ∙ f)
 
   untouched : wasAccepted t ≡ false → Untouched s t ts
   unfolding stateAfter answer bufferAfter
   untouched f =
-      let n : accepted (stateAfter s ts) (t .call) ≡ false = sym took-is ∙ f in
+      let n : accepted (stateAfter s ts) (t .call) ≡ false = sym accepted-is ∙ f in
       record {
-        point = ap (λ (x : State). x .point) (left-refused f);
-        store = ap (λ (x : State). x .store) (left-refused f);
+        point = ap (λ (x : State). x .point) (state-refused f);
+        store = ap (λ (x : State). x .store) (state-refused f);
         buffer = does .buffered ∙ rw n;
         figures = ap (λ (x : Answer). x .figures) (does .answered) ∙ rw n;
       }
@@ -130,20 +130,20 @@ each s P h [] f = tt
 each s P h (t ∷ ts) f = (h t ts f, each s P h ts (f .1))
 
 -- THE LIST WITHOUT ITS REFUSED CALLS
-kept-left : (s : State) (ts : List Turn) → Follows s ts → stateAfter s (withoutRefused ts) ≡ stateAfter s ts
+state-kept : (s : State) (ts : List Turn) → Follows s ts → stateAfter s (withoutRefused ts) ≡ stateAfter s ts
 unfolding Follows withoutRefused stateAfter
-kept-left s [] f = refl
-kept-left s (t ∷ ts) f =
+state-kept s [] f = refl
+state-kept s (t ∷ ts) f =
     by-cases (wasAccepted t)
     (λ y. rw y)
-    (λ n. rw n (kept-left s ts (f .1) ∙ sym (left-refused s t ts (f .0) n)))
+    (λ n. rw n (state-kept s ts (f .1) ∙ sym (state-refused s t ts (f .0) n)))
 
 kept-follows : (s : State) (ts : List Turn) → Follows s ts → Follows s (withoutRefused ts)
 unfolding Follows withoutRefused
 kept-follows s [] f = tt
 kept-follows s (t ∷ ts) f =
     by-cases (wasAccepted t)
-    (λ y. rw y (rw (kept-left s ts (f .1)) (f .0), kept-follows s ts (f .1)))
+    (λ y. rw y (rw (state-kept s ts (f .1)) (f .0), kept-follows s ts (f .1)))
     (λ n. rw n (kept-follows s ts (f .1)))
 
 -- OF A RUN
@@ -152,11 +152,11 @@ module _ (o : Opening) (s : State) (begun : Shows o [] s) where
       → Shows o (book o ts) (stateAfter s ts) → Shows o (book o (t ∷ ts)) (stateAfter s (t ∷ ts))
   unfolding book feed leaves
   keep-next t ts does h =
-      let e : stateAfter s (t ∷ ts) ≡ leaves (stateAfter s ts) (t .call) = left-is s t ts does in
+      let e : stateAfter s (t ∷ ts) ≡ leaves (stateAfter s ts) (t .call) = state-is s t ts does in
       subst (Shows o (book o (t ∷ ts))) (sym e)
       (by-cases (wasAccepted t)
-      (λ y. rw (y, sym (took-is s t ts does) ∙ y) (step o (book o ts) (stateAfter s ts) (t .call) h (sym (took-is s t ts does) ∙ y)))
-      (λ n. rw (n, sym (took-is s t ts does) ∙ n) h))
+      (λ y. rw (y, sym (accepted-is s t ts does) ∙ y) (step o (book o ts) (stateAfter s ts) (t .call) h (sym (accepted-is s t ts does) ∙ y)))
+      (λ n. rw (n, sym (accepted-is s t ts does) ∙ n) h))
 
   keep : (ts : List Turn) → Follows s ts → Shows o (book o ts) (stateAfter s ts)
   unfolding Follows book stateAfter
@@ -176,7 +176,7 @@ module _ (o : Opening) (s : State) (begun : Shows o [] s) where
   closed-turn t ts f y =
       let p = both (wasAccepted t) (isClosing (t .call)) y in
       does-close o (book o ts) (stateAfter s ts) (t .call) (t .answer) (t .store) (t .buffer) (keep ts (f .1)) (f .0)
-      (sym (took-is s t ts (f .0)) ∙ p .0) (p .1)
+      (sym (accepted-is s t ts (f .0)) ∙ p .0) (p .1)
 
   handed-same : (t : Turn) (ts : List Turn) → Follows s (t ∷ ts) → closes t ≡ true → handed o t ts ≡ workOut o (book o ts) (t .call) .hours
   unfolding handed
@@ -264,7 +264,7 @@ demand3 o s ts run =
             follows =
                 kept-follows s ts f;
           };
-      sameState = kept-left s ts f;
+      sameState = state-kept s ts f;
       byBook = each s _ (as-book o s begun) ts f;
       totalHanded = total-book o s begun ts f ∙ volumes-handed o s begun ts f;
       totalBook = total-book o s begun ts f;

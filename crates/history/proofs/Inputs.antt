@@ -10,8 +10,8 @@ use lib.ListN.{length, take, drop}
 use lib.Seq.{take-take}
 use Rattle.numbers.proofs.Laws.{by-cases, both, at-tab}
 use Rattle.calendar.specs.declared.Date.{Date}
-use Rattle.calendar.specs.Calendar.{isEnd, openHours, monthNumber, dateOf}
-use Rattle.calendar.proofs.Laws.{hours-high, number-next, date-number, same-date, OpenLimits, open-limits}
+use Rattle.calendar.specs.Calendar.{openHours, monthNumber, dateOf}
+use Rattle.calendar.proofs.Laws.{open-high, number-next, date-number, same-date, OpenLimits, open-limits}
 use Rattle.store.specs.Store.{rowPart}
 use Rattle.contract.specs.Contract.{kept}
 use Rattle.store.specs.Store.{asRow}
@@ -24,11 +24,6 @@ use Rattle.history.proofs.Rows.{take-row, row-hours}
 use Rattle.history.proofs.View.{givenBy, statedBy, hoursRead, latestOf, yearIn, lastIn, contents, pointOf, seen, OfItsMeter, Entered}
 use Rattle.history.proofs.View.{MonthsClosed, Shows}
 use Rattle.history.proofs.Months.{month-open, grows}
-
--- no month has more hours than a row
-pub hours-most : (d : Date) → openHours d ≤ 744
-unfolding openHours
-hours-most d = by-cases (isEnd d) (λ t. rw t (lit≤ tt)) (λ f. rw f (hours-high d))
 
 -- THIS MONTH'S READINGS
 reading-same : (kind t : ℕ) (m : Measured) → OfItsMeter kind t m → (hs : List ℕ) → (length (hoursRead m) ≡ t → hs ≡ hoursRead m)
@@ -137,11 +132,11 @@ month-contents o es r l = rw (ne-eqb r 12 (omega arith), ne-eqb r 13 (omega arit
 
 module _ (o : Opening) (es : Book) (store : List ℕ) (h : Shows o es (seen o es store)) where
   part : (r : ℕ) (d : Date) → r < 12 → rowPart store r (openHours d) ≡ take (openHours d) (asRow (lastIn o es r))
-  part r d l = sym (take-take (openHours d) 744 (drop (744 * r) store) (hours-most d)) ∙ rw (h .rows .rows r (omega arith), month-contents o es r l)
+  part r d l = sym (take-take (openHours d) 744 (drop (744 * r) store) (open-high d)) ∙ rw (h .rows .rows r (omega arith), month-contents o es r l)
 
-  last-slot : (n : ℕ) → rowOf (dateOf n) < 12
+  last-row : (n : ℕ) → rowOf (dateOf n) < 12
   unfolding dateOf
-  last-slot n = omega arith
+  last-row n = omega arith
 
   last-number : (d : Date) → 0 < d .year → monthNumber d - 12 ≡ monthNumber (lastYear d)
   unfolding monthNumber
@@ -161,7 +156,7 @@ module _ (o : Opening) (es : Book) (store : List ℕ) (h : Shows o es (seen o es
       rw (
         at-tab 12 (yearIn o es) (rowOf d) (omega (arith, k .last)),
         part (rowOf d) (lastYear d) (omega (arith, k .last)),
-        part (rowOf (dateOf (latestOf o es))) (dateOf (latestOf o es)) (last-slot (latestOf o es)),
+        part (rowOf (dateOf (latestOf o es))) (dateOf (latestOf o es)) (last-row (latestOf o es)),
         latest-same o es (h .months),
         n,
       )
@@ -174,9 +169,9 @@ module _ (o : Opening) (es : Book) (store : List ℕ) (h : Shows o es (seen o es
       let t : ℕ = openHours (monthOf o es) in
       rw (
         past-same,
-        reading-same (o .asked .billing) t (billingOf es) (h .billing) (rowPart store 12 t) (row-hours (h .rows) 12 t (lit≤ tt) (hours-most _)),
+        reading-same (o .asked .billing) t (billingOf es) (h .billing) (rowPart store 12 t) (row-hours (h .rows) 12 t (lit≤ tt) (open-high _)),
         reading-same (o .asked .control) t (thisMonths (ofKind control) es) (h .control) (rowPart store 13 t)
-            (row-hours (h .rows) 13 t (lit≤ tt) (hours-most _)),
+            (row-hours (h .rows) 13 t (lit≤ tt) (open-high _)),
         stated-same (sourceOf 1 es),
         stated-same (sourceOf 2 es),
       )

@@ -10,6 +10,7 @@ use lib.Dec.{eqb, lit≤}
 use lib.ListN.{length}
 use Rattle.numbers.proofs.Laws.{by-cases, both}
 use Rattle.calendar.specs.Calendar.{openHours, monthNumber}
+use Rattle.calendar.proofs.Laws.{open-high}
 use Rattle.contract.specs.Contract.{kept}
 use Rattle.record.specs.Record.{isSet}
 use Rattle.rules.specs.Calls.{Opening, Call, billingHours, controlHours, billingVolume, controlVolume, neighbour, failure, admission, denial}
@@ -24,7 +25,6 @@ use Rattle.history.specs.Book.{Entry, Book, control, closed, kindOf, kin
 use Rattle.history.proofs.Rows.{Holds, replacedAt, holds-same, holds-put}
 use Rattle.history.proofs.View.{givenBy, hoursRead, lastIn, contents, pointOf, seen, lookBacks, OfItsMeter, Entered, MonthsClosed, Shows}
 use Rattle.history.proofs.Months.{last-is-any}
-use Rattle.history.proofs.Inputs.{hours-most}
 
 -- the call entered
 abbrev pub entry : Opening → Book → Call → Entry
@@ -105,7 +105,7 @@ module _ (o : Opening) (es : Book) (store : List ℕ) (h : Shows o es (seen o es
       let e : length hs ≡ openHours (monthOf o es) = tested (q .long) in
       between (billingHours hs) t refl refl
       (holds-same (row-12 o es (entry o es (billingHours hs) ∷ es) hs refl refl (λ r. refl))
-      (holds-put 12 hs (lit≤ tt) (omega (arith, hours-most (monthOf o es))) (h .rows)))
+      (holds-put 12 hs (lit≤ tt) (omega (arith, open-high (monthOf o es))) (h .rows)))
       (tested (q .meter), e) (h .control)
 
   pub step-control-hours : (hs : List ℕ) → Steps (controlHours hs)
@@ -115,7 +115,7 @@ module _ (o : Opening) (es : Book) (store : List ℕ) (h : Shows o es (seen o es
       let e : length hs ≡ openHours (monthOf o es) = tested (q .long) in
       between (controlHours hs) t refl refl
       (holds-same (row-13 o es (entry o es (controlHours hs) ∷ es) hs refl refl (λ r. refl))
-      (holds-put 13 hs (lit≤ tt) (omega (arith, hours-most (monthOf o es))) (h .rows)))
+      (holds-put 13 hs (lit≤ tt) (omega (arith, open-high (monthOf o es))) (h .rows)))
       (h .billing) (tested (q .meter), e)
 
   pub step-billing-volume : (v : ℕ) → Steps (billingVolume v)

@@ -163,9 +163,9 @@ module _ (s : Line) (t : Token) (e : s .error ≡ noError) where
   unfolding inDay
   day-stands = stands-either (eqb (t .kind) leftKind) (goes e (omega arith)) (fail (omega arith))
 
-  stepped-stands : (hours : ℕ) → Stands (afterToken hours s t)
+  after-token-stands : (hours : ℕ) → Stands (afterToken hours s t)
   unfolding afterToken
-  stepped-stands hours =
+  after-token-stands hours =
       stands-either (eqb (t .kind) foreignKind) (fail (omega arith))
       (stands-either (eqb (t .kind) longKind) (fail (omega arith))
       (stands-either (eqb (s .mode) listMode) list-stands
@@ -227,7 +227,7 @@ no-error (fails f n) m = absurd (omega (arith, f))
 next-stands : (hours : ℕ) (line : List ℕ) (s : Line) → s .error ≡ noError → Stands (nextToken hours line s)
 unfolding nextToken
 next-stands hours line s e =
-    elim (stepped-stands (withNumbers (s .mode) (withoutAction (s .numbers)) s) (tokenAt line (s .at)) e hours) [
+    elim (after-token-stands (withNumbers (s .mode) (withoutAction (s .numbers)) s) (tokenAt line (s .at)) e hours) [
       | goes f l ↦ goes f l
       | fails f n ↦ fails f n
     ]
@@ -244,16 +244,16 @@ next-far hours line s n l =
     ⊎-elim (λ k. inl (at-end hours line s k)) (λ m. inr (omega arith)) (token-on line (s .at))
 
 module _ (hours first : ℕ) (line : List ℕ) (r : LineRead) (g : leb readMode (r .line .mode) ≡ false) where
-  turned-more : (n : ℕ) → Far n (r .line) → Far (n + 1) (readToken hours first line r .line)
+  token-more : (n : ℕ) → Far n (r .line) → Far (n + 1) (readToken hours first line r .line)
   unfolding readToken
-  turned-more n f =
+  token-more n f =
       let m : r .line .mode < readMode = leb-false _ _ g in
       let at : n ≤ r .line .at = ⊎-elim (λ d. absurd (omega arith)) (λ l. l) (f .far) in
       rw g (record { stands = next-stands hours line (r .line) (no-error (f .stands) m); far = next-far hours line (r .line) n at })
 
-  turned-last : (readMode ≤ r .line .mode) ⊎ (length line ≤ r .line .at) → readMode ≤ readToken hours first line r .line .mode
+  token-last : (readMode ≤ r .line .mode) ⊎ (length line ≤ r .line .at) → readMode ≤ readToken hours first line r .line .mode
   unfolding readToken
-  turned-last far =
+  token-last far =
       let m : r .line .mode < readMode = leb-false _ _ g in
       let at : length line ≤ r .line .at = ⊎-elim (λ d. absurd (omega arith)) (λ l. l) far in
       rw g (at-end hours line (r .line) (token-end line (r .line .at) at))
@@ -263,7 +263,7 @@ token-far : (hours first : ℕ) (line : List ℕ) (r : LineRead) (n : ℕ) → F
 token-far hours first line r n f =
     by-cases (leb readMode (r .line .mode))
     (λ t. rw (token-done hours first line r t) (record { stands = f .stands; far = inl (leb-true _ _ t) }))
-    (λ g. turned-more hours first line r g n f)
+    (λ g. token-more hours first line r g n f)
 
 tokens-far : (k hours first : ℕ) (line : List ℕ) (r : LineRead) (n : ℕ) → Far n (r .line)
     → Far (n + k) (readTokens k hours first line r .line)
@@ -279,7 +279,7 @@ end-far : (hours first : ℕ) (line : List ℕ) (r : LineRead) → Far (length l
 end-far hours first line r f =
     by-cases (leb readMode (r .line .mode))
     (λ t. rw (token-done hours first line r t) (leb-true _ _ t))
-    (λ g. turned-last hours first line r g (f .far))
+    (λ g. token-last hours first line r g (f .far))
 
 -- THE LINE IS READ, WITH NO ERROR, OR FAILED, WITH ONE
 ended : {s : Line} → Stands s → readMode ≤ s .mode → Ended s

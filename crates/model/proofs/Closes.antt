@@ -80,7 +80,7 @@ row-hours store r t words fits low high l = record {
 }
 
 -- the volume of a reading is within its limit
-volume-most : (d : Date) (g : Reading) (has w : Bool) → allOf (readingTests g has w (volumeLimit d)) ≡ true → g .volume .0 ≤ openHours d * 1000000
+pub volume-most : (d : Date) (g : Reading) (has w : Bool) → allOf (readingTests g has w (volumeLimit d)) ≡ true → g .volume .0 ≤ openHours d * 1000000
 unfolding volumeLimit
 volume-most d g has w h = leb-true _ _ (each-test (readingTests g has w (openHours d * 1000000)) h .1 .1 .1 .0)
 

@@ -113,7 +113,7 @@ keep-billing-hours s hs f t =
     written s _ 12 hs f
     (with-readings r (withBilling (r .readings) (givenAs 0)) v
     (record { billing = hours-fit (eqb (r .contract .billing) 2) (volumeLimit (r .date)); control = g .control; first = g .first; second = g .second }))
-    (f .twelve) (lit≤ tt) (lit≤ tt) (month-most r hs (f .record-fits) (q .long)) (not-false _ (q .small))
+    (f .twelve) (lit≤ tt) (lit≤ tt) (month-most r hs (q .long)) (not-false _ (q .small))
 
 -- a control meter of a kind that the contract has
 control-there : (k n : ℕ) → not (eqb k n) ≡ false → 0 < n → not (eqb k 0) ≡ true
@@ -138,7 +138,7 @@ keep-control-hours s hs f t =
       first = g .first;
       second = g .second;
     }))
-    (f .twelve) (lit≤ tt) (lit≤ tt) (month-most r hs (f .record-fits) (q .long)) (not-false _ (q .small))
+    (f .twelve) (lit≤ tt) (lit≤ tt) (month-most r hs (q .long)) (not-false _ (q .small))
 
 keep-billing-volume : (s : State) (v : ℕ) → StateFits s → accepted s (billingVolume v) ≡ true → StateFits (accept s (billingVolume v))
 unfolding ownRefusal accept

@@ -17,7 +17,6 @@ use Rattle.contract.specs.Contract.{isBillingKind, isControlKind, isAgreed}
 use Rattle.record.specs.declared.Record.{Record}
 use Rattle.record.specs.Record.{zeroRecord}
 use Rattle.validity.specs.Valid.{valid}
-use Rattle.validity.proofs.Laws.{valid-parts}
 use Rattle.rules.specs.Calls.{Opening, Call, bufferOf}
 use Rattle.rules.specs.Rules.{noFigures}
 use Rattle.model.specs.declared.Answer.{Answer}
@@ -62,9 +61,9 @@ reading-passed h =
     record { meter = a .0; free = b .0; first = d .0; long = e .0; small = skip (lit< tt) (e .1) .0 }
 
 -- T hours fit a row
-pub month-most : (r : Record) (hs : List ℕ) → valid r ≡ true → notMonth r hs ≡ false → length hs ≤ 744
-month-most r hs v f =
-    omega (arith, eqb-true (length hs) (openHours (r .date)) (not-false _ f), open-high (r .date) (valid-parts r v .month))
+pub month-most : (r : Record) (hs : List ℕ) → notMonth r hs ≡ false → length hs ≤ 744
+month-most r hs f =
+    omega (arith, eqb-true (length hs) (openHours (r .date)) (not-false _ f), open-high (r .date))
 
 -- a call that is refused, with a number that is not 0
 pub refused : (s : State) (c : Call) {number : ℕ} {a : Answer} → number ≡ refusal s c → number ≢ 0

@@ -70,7 +70,7 @@ spare-billing-hours : (s : State) (hs : List ℕ) → StateFits s → Unused s �
 unfolding ownRefusal accept
 spare-billing-hours s hs f u t =
     let q = reading-passed (call-passed s (billingHours hs) t .own) in
-    let long = month-most (s .point) hs (f .record-fits) (q .long) in
+    let long = month-most (s .point) hs (q .long) in
     let e = eqb-true (length hs) (openHours (s .point .date)) (not-false _ (q .long)) in
     record {
       months = λ k l. other-row 12 hs (s .store) (f .words) (lit≤ tt) long k (monthUsed (s .point .past .years) k) (inl l) (u .months k l);
@@ -84,7 +84,7 @@ spare-control-hours : (s : State) (hs : List ℕ) → StateFits s → Unused s �
 unfolding ownRefusal accept
 spare-control-hours s hs f u t =
     let q = reading-passed (call-passed s (controlHours hs) t .own) in
-    let long = month-most (s .point) hs (f .record-fits) (q .long) in
+    let long = month-most (s .point) hs (q .long) in
     let e = eqb-true (length hs) (openHours (s .point .date)) (not-false _ (q .long)) in
     record {
       months = λ k l. other-row 13 hs (s .store) (f .words) (lit≤ tt) long k (monthUsed (s .point .past .years) k) (inl (omega arith)) (u .months k l);

@@ -16,4 +16,4 @@ pub hours-written : {row n : ℕ} (r : Record) (store hs : List ℕ) (t20 t21 t2
     → writtenIn row hs store ≡ withHours row hs store
 hours-written r store hs t20 t21 t22 l e z =
     let p = passed (sym e ∙ z) in
-    written-in _ hs store l (month-most r hs (p .sound) (reading-passed (p .own) .long)) (p .size)
+    written-in _ hs store l (month-most r hs (reading-passed (p .own) .long)) (p .size)

@@ -2,7 +2,7 @@
 use borrow.Author.Needs.{needs}
 use Rattle.model.specs.Model.{state, inputs}
 use denote.Ref.{now}
-use Rattle.first_ground.proofs.Firsts.{nine-gives, eight-gives}
+use Rattle.first_ground.proofs.Firsts.{nine-outcome, eight-outcome}
 use Rattle.first_ground.proofs.Laws.{known}
 use Rattle.first_ground.proofs.by_contract.Statement.{statement}
 use Rattle.first_ground.proofs.by_contract.Tie as tie
@@ -22,7 +22,7 @@ by-contract-spec =
     let back4 = c .before .before .before .before in let back6 = back4 .before .before in
     let back10 = back6 .before .before .before .before in
     let a = back10 .args in
-    nine-gives (inputs (state (a .r) (now (a .store))) (now (a .marks))) (back4 .if1 .taken) (back6 .open-hours .ensures)
+    nine-outcome (inputs (state (a .r) (now (a .store))) (now (a .marks))) (back4 .if1 .taken) (back6 .open-hours .ensures)
     (c .before .before .ground-nine .ensures))
     (λ c κs.
     let back3 = c .before .before .before in let back7 = back3 .before .before .before .before in
@@ -32,5 +32,5 @@ by-contract-spec =
     let back4 = c .before .before .before .before in let back6 = back4 .before .before in
     let back10 = back6 .before .before .before .before in
     let a = back10 .args in
-    eight-gives (inputs (state (a .r) (now (a .store))) (now (a .marks))) (back4 .if1 .left) (back6 .open-hours .ensures)
+    eight-outcome (inputs (state (a .r) (now (a .store))) (now (a .marks))) (back4 .if1 .left) (back6 .open-hours .ensures)
     (c .before .before .ground-eight .ensures)))

@@ -3,7 +3,7 @@ use borrow.Author.Needs.{needs}
 use denote.Ref.{now}
 use native.Mathlib.Omega.{arith}
 use Rattle.model.specs.Model.{state, inputs}
-use Rattle.first_ground.proofs.Firsts.{one-gives, two-gives, control-gives, is-hourly, is-whole, is-missing}
+use Rattle.first_ground.proofs.Firsts.{one-outcome, two-outcome, control-outcome, is-hourly, is-whole, is-missing}
 use Rattle.first_ground.proofs.Laws.{known, marks-some, marks-few}
 use Rattle.first_ground.proofs.first_ground.Statement.{statement}
 use Rattle.first_ground.proofs.first_ground.Tie as tie
@@ -24,7 +24,7 @@ first-ground-spec =
     let back12 = back7 .before .before .before .before .before in
     let a = back12 .args in
     let i = inputs (state (a .r) (now (a .store))) (now (a .marks)) in
-    one-gives i _ (is-hourly _ _ _ (back7 .if1 .taken) (back5 .if2 .taken)) (rw (back4 .open-hours .ensures) at (c .before .before .ground-one .ensures)))
+    one-outcome i _ (is-hourly _ _ _ (back7 .if1 .taken) (back5 .if2 .taken)) (rw (back4 .open-hours .ensures) at (c .before .before .ground-one .ensures)))
     (λ c κs. search needs)
     (λ c κs. search needs)
     (λ c κs. known _ _ _ _ (c .before .before .before .before .before .before .before .before .before .pre .0) .cable)
@@ -37,7 +37,7 @@ first-ground-spec =
     let back9 = back7 .before .before in let back14 = back9 .before .before .before .before .before in
     let a = back14 .args in
     let i = inputs (state (a .r) (now (a .store))) (now (a .marks)) in
-    two-gives i _ (is-whole _ _ _ (back9 .if1 .taken) (back7 .if2 .left))
+    two-outcome i _ (is-whole _ _ _ (back9 .if1 .taken) (back7 .if2 .left))
     (rw (back5 .less .ensures, back6 .neighbour-volume .ensures, back4 .point-power .ensures) at (c .before .before .ground-two .ensures)))
     (λ c κs. search needs)
     (λ c. search needs)
@@ -45,4 +45,4 @@ first-ground-spec =
     let back4 = c .before .before .before .before in let back9 = back4 .before .before .before .before .before in
     let a = back9 .args in
     let i = inputs (state (a .r) (now (a .store))) (now (a .marks)) in
-    control-gives i (is-missing _ _ _ (back4 .if1 .left)) (c .before .before .on-control .ensures)))
+    control-outcome i (is-missing _ _ _ (back4 .if1 .left)) (c .before .before .on-control .ensures)))

@@ -2,7 +2,7 @@
 use borrow.Author.Needs.{needs}
 use denote.Ref.{now}
 use Rattle.model.specs.Model.{state, inputs}
-use Rattle.first_ground.proofs.Firsts.{three-gives, volume-gives, past-gives, is-hourly, is-whole, is-missing}
+use Rattle.first_ground.proofs.Firsts.{three-outcome, volume-outcome, past-outcome, is-hourly, is-whole, is-missing}
 use Rattle.first_ground.proofs.Laws.{known}
 use Rattle.first_ground.proofs.on_control.Statement.{statement}
 use Rattle.first_ground.proofs.on_control.Tie as tie
@@ -23,7 +23,7 @@ on-control-spec =
     let back12 = back7 .before .before .before .before .before in
     let a = back12 .args in
     let i = inputs (state (a .r) (now (a .store))) (now (a .marks)) in
-    three-gives i _ (is-hourly _ _ _ (back7 .if1 .taken) (back5 .if2 .taken)) (rw (back4 .open-hours .ensures) at (c .before .before .ground-three .ensures)))
+    three-outcome i _ (is-hourly _ _ _ (back7 .if1 .taken) (back5 .if2 .taken)) (rw (back4 .open-hours .ensures) at (c .before .before .ground-three .ensures)))
     (λ c κs. search needs)
     (λ c. search needs)
     (λ c.
@@ -31,11 +31,11 @@ on-control-spec =
     let back11 = back6 .before .before .before .before .before in
     let a = back11 .args in
     let i = inputs (state (a .r) (now (a .store))) (now (a .marks)) in
-    volume-gives i _ (is-whole _ _ _ (back6 .if1 .taken) (back4 .if2 .left)) (c .before .before .on-control-volume .ensures))
+    volume-outcome i _ (is-whole _ _ _ (back6 .if1 .taken) (back4 .if2 .left)) (c .before .before .on-control-volume .ensures))
     (λ c κs. search needs)
     (λ c. search needs)
     (λ c.
     let back4 = c .before .before .before .before in let back9 = back4 .before .before .before .before .before in
     let a = back9 .args in
     let i = inputs (state (a .r) (now (a .store))) (now (a .marks)) in
-    past-gives i (is-missing _ _ _ (back4 .if1 .left)) (c .before .before .on-past .ensures)))
+    past-outcome i (is-missing _ _ _ (back4 .if1 .left)) (c .before .before .on-past .ensures)))

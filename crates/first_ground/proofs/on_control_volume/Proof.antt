@@ -5,7 +5,8 @@ use native.Mathlib.Omega.{arith}
 use borrow.Author.Tests.{not-true, not-false}
 use mathlib.Core.Path.{sym, _∙_}
 use Rattle.model.specs.Model.{state, inputs}
-use Rattle.first_ground.proofs.Firsts.{five-gives, four-gives, six-gives, later-gives, inputs-past, inputs-no-past, six-test, six-sum, six-room}
+use Rattle.first_ground.proofs.Firsts.{five-outcome, four-outcome, six-outcome, later-outcome, inputs-past, inputs-no-past, six-test}
+use Rattle.first_ground.proofs.Firsts.{six-sum, six-room}
 use Rattle.first_ground.proofs.Laws.{known, marks-some, marks-few, peaks-few, days-few}
 use Rattle.first_ground.proofs.on_control_volume.Statement.{statement}
 use Rattle.first_ground.proofs.on_control_volume.Tie as tie
@@ -28,7 +29,7 @@ on-control-volume-spec =
     let back8 = back7 .before in let back9 = back8 .before in let back13 = back9 .before .before .before .before in
     let a = back13 .args in
     let i = inputs (state (a .r) (now (a .store))) (now (a .marks)) in
-    five-gives i _ (inputs-no-past (a .r) (now (a .store)) (now (a .marks)) _ (back6 .find-past .ensures) (not-true _ (back4 .if1 .taken)))
+    five-outcome i _ (inputs-no-past (a .r) (now (a .store)) (now (a .marks)) _ (back6 .find-past .ensures) (not-true _ (back4 .if1 .taken)))
     (rw (back8 .less .ensures, back9 .neighbour-volume .ensures, back7 .point-power .ensures) at (c .before .before .ground-five .ensures)))
     (λ c κs. search needs)
     (λ c. search needs)
@@ -45,7 +46,7 @@ on-control-volume-spec =
     let back16 = back12 .before .before .before .before in
     let a = back16 .args in
     let i = inputs (state (a .r) (now (a .store))) (now (a .marks)) in
-    four-gives i _ _ (inputs-past (a .r) (now (a .store)) (now (a .marks)) _ (back9 .find-past .ensures) (not-false _ (back7 .if1 .left)))
+    four-outcome i _ _ (inputs-past (a .r) (now (a .store)) (now (a .marks)) _ (back9 .find-past .ensures) (not-false _ (back7 .if1 .left)))
     (rw (back5 .counted .ensures) at (back4 .if2 .taken)) (back6 .open-hours .ensures)
     (rw (back11 .less .ensures, back12 .neighbour-volume .ensures) at (c .before .before .ground-four .ensures)))
     (λ c κs.
@@ -76,7 +77,7 @@ on-control-volume-spec =
     let k = known _ _ _ _ (back20 .pre .0) in
     let g = rw (back10 .open-hours .ensures, back15 .less .ensures, back16 .neighbour-volume .ensures) at (back6 .ground-six .ensures) in
     let e = rw (back15 .less .ensures, back16 .neighbour-volume .ensures) at (c .before .six-fits .ensures) in
-    six-gives i _ _ (inputs-past (a .r) (now (a .store)) (now (a .marks)) _ (back13 .find-past .ensures) (not-false _ (back11 .if1 .left)))
+    six-outcome i _ _ (inputs-past (a .r) (now (a .store)) (now (a .marks)) _ (back13 .find-past .ensures) (not-false _ (back11 .if1 .left)))
     (rw (back9 .counted .ensures) at (back8 .if2 .left))
     (sym (six-test k _ _ _ (back20 .pre .1) e (back14 .point-power .ensures) (c .before .before .capacity-sum .ensures) (g .hours)) ∙ c .if3 .taken) g)
     (λ c κs.
@@ -99,7 +100,7 @@ on-control-volume-spec =
     let k = known _ _ _ _ (back24 .pre .0) in
     let g = rw (back14 .open-hours .ensures, back19 .less .ensures, back20 .neighbour-volume .ensures) at (back10 .ground-six .ensures) in
     let e = rw (back19 .less .ensures, back20 .neighbour-volume .ensures) at (back5 .six-fits .ensures) in
-    later-gives i _ _ (inputs-past (a .r) (now (a .store)) (now (a .marks)) _ (back17 .find-past .ensures) (not-false _ (back15 .if1 .left)))
+    later-outcome i _ _ (inputs-past (a .r) (now (a .store)) (now (a .marks)) _ (back17 .find-past .ensures) (not-false _ (back15 .if1 .left)))
     (rw (back13 .counted .ensures) at (back12 .if2 .left))
     (sym (six-test k _ _ _ (back24 .pre .1) e (back18 .point-power .ensures) (back6 .capacity-sum .ensures) (g .hours)) ∙ back4 .if3 .left)
     (rw (back19 .less .ensures, back20 .neighbour-volume .ensures, back18 .point-power .ensures) at (c .before .before .ground-five2 .ensures))))
