@@ -1,5 +1,5 @@
 /* Calls the two functions of the billing host over their limits and just outside each of them, and compares them with
- * the formula in wide integers and with the C library's calendar. */
+ * the formula in wide integers, with the C library's calendar and with a table of months. */
 #define _DEFAULT_SOURCE
 #include "sallowbingo.h"
 
@@ -83,6 +83,27 @@ static void every_month(void) {
         }
 }
 
+/* By a table, which divides by nothing: every fourth year from 2016 on has a day more, but for seven that are listed. */
+static void every_month_by_table(void) {
+    static const uint32_t table[] = {31, 28, 31, 30, 31, 30, 31, 31, 30, 31, 30, 31};
+    static const uint64_t common[] = {2100, 2200, 2300, 2500, 2600, 2700, 2900};
+    uint64_t fourth = 2016, months = 0, days = 0;
+    size_t met = 0;
+    for (uint64_t year = 2014; year <= 2999; year++) {
+        int listed = met < COUNT(common) && year == common[met];
+        for (uint64_t month = 1; month <= COUNT(table); month++, months++) {
+            uint32_t length = month == 2 && year == fourth && !listed ? 29 : table[month - 1];
+            CHECK(sallowbingo_month_days(year, month) == length);
+            days += length;
+        }
+        fourth += year == fourth ? 4 : 0;
+        met += listed ? 1 : 0;
+    }
+    CHECK(met == COUNT(common));
+    CHECK(months == 11832);
+    CHECK(days == 986 * 365 + 239); /* 246 fourth years, seven of them without the day */
+}
+
 static void months_outside(void) {
     for (uint64_t month = 0; month <= 14; month++) {
         CHECK(sallowbingo_month_days(2013, month) == 0);
@@ -113,6 +134,7 @@ int main(void) {
     formula_examples();
     formula_at_random();
     every_month();
+    every_month_by_table();
     months_outside();
     month_examples();
     return check_tally();

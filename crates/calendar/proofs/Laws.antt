@@ -7,10 +7,10 @@ use native.Mathlib.Omega.{arith}
 use borrow.Author.Tests.{leb-true, leb-false, eqb-true, eqb-false, le-leb, eq-eqb, ne-eqb}
 use lib.Dec.{leb, eqb, lit≤}
 use lib.ListN.{length, getD}
-use Rattle.numbers.proofs.Laws.{by-cases, both, first-of}
+use Rattle.numbers.proofs.Laws.{by-cases, both, first-of, and-false}
 use Rattle.calendar.specs.declared.Date.{Date}
-use Rattle.calendar.specs.Calendar.{monthTable, leapYear, isMonth, monthDays, monthHours, isEnd, isOpen, openHours, monthNumber, dateOf}
-use Rattle.calendar.specs.Calendar.{dateIn, nextMonth, nextIn}
+use Rattle.calendar.specs.Calendar.{monthTable, leapYear, isMonth, monthDays, februaryDays, monthDaysByCases, SameLengths}
+use Rattle.calendar.specs.Calendar.{monthHours, isEnd, isOpen, openHours, monthNumber, dateOf, dateIn, nextMonth, nextIn}
 
 -- the limits that isMonth tests
 pub record Limits (d : Date) : Type 0 where
@@ -56,6 +56,29 @@ unfolding monthDays
 days d h =
     let l = limits d h in
     rw h (either (leapYear (d .year) && eqb (d .month) 2) 29 _ (lit≤ tt, lit≤ tt) (entry monthTable (d .month - 1) refl (omega arith)))
+
+-- February has the same days by the cases of the Gregorian rule and by the condition for leap years
+same-february : (y : ℕ) → februaryDays y ≡ cond (leapYear y) 29 28
+unfolding februaryDays leapYear
+same-february y =
+    by-cases (eqb (y % 400) 0)
+    (λ a.
+    let e = eqb-true (y % 400) 0 a in
+    rw (a, eq-eqb (y % 100) 0 (omega arith), eq-eqb (y % 4) 0 (omega arith)))
+    (λ a.
+    by-cases (eqb (y % 100) 0)
+    (λ b. let e = eqb-true (y % 100) 0 b in rw (a, b, eq-eqb (y % 4) 0 (omega arith)))
+    (λ b. by-cases (eqb (y % 4) 0) (λ c. rw (a, b, c)) (λ c. rw (a, b, c))))
+
+-- EVERY DATE HAS THE SAME LENGTH by both, 0 outside the limits included
+pub same-length : SameLengths
+unfolding monthDaysByCases monthDays
+same-length d =
+    by-cases (eqb (d .month) 2)
+    (λ t.
+    rw (t, eqb-true (d .month) 2 t, same-february (d .year))
+    (by-cases (leapYear (d .year)) (λ l. rw l) (λ f. rw f)))
+    (λ f. rw (f, and-false (leapYear (d .year))))
 
 -- a month outside has no days
 pub outside : (d : Date) → isMonth d ≡ false → monthDays d ≡ 0

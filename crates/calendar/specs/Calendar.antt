@@ -2,6 +2,7 @@
 use Prim.Native.Nat.{ℕ, _+_, _-_, _*_, _/_, _%_}
 use mathlib.Core.Bool.{Bool, not, cond, _&&_, _||_}
 use mathlib.Core.List.{List, [], _∷_}
+use mathlib.Core.Path.{_≡_}
 use lib.ListN.{getD}
 use lib.Dec.{leb, eqb}
 use Rattle.calendar.specs.declared.Date.{Date}
@@ -10,18 +11,35 @@ use Rattle.calendar.specs.declared.Date.{Date}
 abbrev pub monthTable : List ℕ
 monthTable = 31 ∷ 28 ∷ 31 ∷ 30 ∷ 31 ∷ 30 ∷ 31 ∷ 31 ∷ 30 ∷ 31 ∷ 30 ∷ 31 ∷ []
 
--- the leap years of the Gregorian calendar
-unfoldable pub leapYear : ℕ → Bool
-leapYear y = eqb (y % 4) 0 && (not (eqb (y % 100) 0) || eqb (y % 400) 0)
-
 -- months run from January 2014 to December 2999
 unfoldable pub isMonth : Date → Bool
 isMonth d = leb 1 (d .month) && leb (d .month) 12 && leb 2014 (d .year) && leb (d .year) 2999
 
--- the days of a month, February by the Gregorian calendar; a month outside those above has 0
+-- February's days by the cases of the Gregorian rule in its own order: a year divisible by 400, by 100, by 4, otherwise
+unfoldable pub februaryDays : ℕ → ℕ
+februaryDays y =
+    cond (eqb (y % 400) 0) 29
+    (cond (eqb (y % 100) 0) 28
+    (cond (eqb (y % 4) 0) 29
+    28))
+
+-- the days of a month, February by these cases; a month outside those above has 0
+unfoldable pub monthDaysByCases : Date → ℕ
+monthDaysByCases d =
+    cond (isMonth d) (cond (eqb (d .month) 2) (februaryDays (d .year)) (getD monthTable (d .month - 1) 0)) 0
+
+-- the leap years of the Gregorian calendar in one condition
+unfoldable pub leapYear : ℕ → Bool
+leapYear y = eqb (y % 4) 0 && (not (eqb (y % 100) 0) || eqb (y % 400) 0)
+
+-- the days of a month, February by this condition; a month outside those above has 0
 unfoldable pub monthDays : Date → ℕ
 monthDays d =
     cond (isMonth d) (cond (leapYear (d .year) && eqb (d .month) 2) 29 (getD monthTable (d .month - 1) 0)) 0
+
+-- both give every date the same length, 0 outside the limits included
+abbrev pub SameLengths : Type 0
+SameLengths = (d : Date) → monthDaysByCases d ≡ monthDays d
 
 -- T is 24 times the days
 unfoldable pub monthHours : Date → ℕ

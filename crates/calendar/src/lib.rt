@@ -1,8 +1,8 @@
 use numbers::pick;
 use numbers::wide;
 ghost use mathlib.Core.Path.{_≡_};
-ghost use Rattle.calendar.specs.Calendar.{leapYear, isMonth, monthDays, monthHours, isEnd, isOpen, openHours, monthNumber, isMonthNumber};
-ghost use Rattle.calendar.specs.Calendar.{dateIn, nextIn};
+ghost use Rattle.calendar.specs.Calendar.{isMonth, monthDays, februaryDays, SameLengths, monthHours, isEnd, isOpen, openHours};
+ghost use Rattle.calendar.specs.Calendar.{monthNumber, isMonthNumber, dateIn, nextIn};
 
 // A month of a year. Months count from 1, January, to 12, December.
 #[repr(C)]
@@ -11,14 +11,25 @@ pub struct Date {
     pub month: u32,
 }
 
-// The days of January to December, February's in a year that is no leap year.
+// The days of January to December, February's in a common year.
 const DAYS: [u32; 12] = [31, 28, 31, 30, 31, 30, 31, 31, 30, 31, 30, 31];
 
-// Whether year `y` is a leap year of the Gregorian calendar, in which February has 29 days.
-fn leap_year(y: u32) -> bool
-    ensures { λ r. ⌜ r ≡ leapYear y ⌝ }
+// February's days in year `y`, by the cases of the Gregorian rule in its own order: divisible by 400, by 100, by 4, otherwise.
+fn february_days(y: u32) -> u32
+    ensures { λ r. ⌜ r ≡ februaryDays y ⌝ }
 {
-    (y % 4 == 0) & ((y % 100 != 0) | (y % 400 == 0))
+    let common = DAYS[1];
+    let leap = common + 1;
+    if y % 400 == 0 {
+        return leap;
+    }
+    if y % 100 == 0 {
+        return common;
+    }
+    if y % 4 == 0 {
+        return leap;
+    }
+    common
 }
 
 // Whether `d` is one of the months that are calculated, January 2014 to December 2999.
@@ -33,12 +44,20 @@ pub fn month_days(d: Date) -> u32
     ensures { λ r. ⌜ r ≡ monthDays d ⌝ }
 {
     if is_month(d) {
+        if d.month == 2 {
+            return february_days(d.year);
+        }
         let i = (d.month - 1) as usize;
-        let plain = DAYS[i];
-        return pick(leap_year(d.year) & (d.month == 2), 29, plain);
+        return DAYS[i];
     }
     0
 }
+
+// Whether February goes by the cases of the Gregorian rule or by one condition for leap years, every date has the same length, 0 outside
+// the limits included. The theorem is the contract of a function that does nothing, so that it stands among the contracts.
+pub fn same_lengths()
+    ensures { λ _. ⌜ SameLengths ⌝ }
+{}
 
 // T, the hours of month `d`: 24 for each day.
 pub fn month_hours(d: Date) -> u32
