@@ -1,4 +1,4 @@
--- Months (document 01, "Months and marks"): January 2014 to December 2999, their lengths, and their numbers.
+-- Months (document 01, "Months and marks"; document 02, E5): January 2014 to December 2999, their lengths, and their numbers.
 use Prim.Native.Nat.{ℕ, _+_, _-_, _*_, _/_, _%_}
 use mathlib.Core.Bool.{Bool, not, cond, _&&_, _||_}
 use mathlib.Core.List.{List, [], _∷_}
@@ -15,7 +15,7 @@ monthTable = 31 ∷ 28 ∷ 31 ∷ 30 ∷ 31 ∷ 30 ∷ 31 ∷ 31 ∷ 30 ∷ 31 �
 unfoldable pub isMonth : Date → Bool
 isMonth d = leb 1 (d .month) && leb (d .month) 12 && leb 2014 (d .year) && leb (d .year) 2999
 
--- February's days by the cases of the Gregorian rule in its own order: a year divisible by 400, by 100, by 4, otherwise
+-- E5: February's days by the cases of the Gregorian rule in its own order: a year divisible by 400, by 100, by 4, otherwise
 unfoldable pub februaryDays : ℕ → ℕ
 februaryDays y =
     cond (eqb (y % 400) 0) 29
@@ -37,7 +37,7 @@ unfoldable pub monthDays : Date → ℕ
 monthDays d =
     cond (isMonth d) (cond (leapYear (d .year) && eqb (d .month) 2) 29 (getD monthTable (d .month - 1) 0)) 0
 
--- both give every date the same length, 0 outside the limits included
+-- E5: both give every date the same length, 0 outside the limits included
 abbrev pub SameLengths : Type 0
 SameLengths = (d : Date) → monthDaysByCases d ≡ monthDays d
 
