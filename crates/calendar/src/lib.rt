@@ -1,3 +1,4 @@
+#![tactic(auto)]
 ghost use Rattle.std.specs.Prelude.{◌≡◌};
 ghost use Rattle.calendar.specs.Calendar.{is_month, month_days, february_days, SameLengths, month_hours, is_end, is_open, open_hours};
 ghost use Rattle.calendar.specs.Calendar.{month_number, is_month_number, date_in, next_in};
@@ -6,7 +7,7 @@ use numbers::{pick, wide};
 
 // A month of a year. Months count from 1, January, to 12, December.
 #[repr(C)]
-#[derive(Drop)]
+#[derive(Clone, Copy)]
 pub struct Date {
     pub year: u32,
     pub month: u32,

@@ -1,5 +1,6 @@
 // The C interface. The header is include/sallowbingo.h. Here are the two functions of the billing host, plain numbers in
 // and out; `calls` has the calls on a point.
+#![tactic(auto)]
 ghost use Rattle.std.specs.Prelude.{◌≡◌};
 ghost use Rattle.calendar.specs.Calendar.{month_days};
 ghost use Rattle.power.specs.Power.{formula_in};

@@ -1,4 +1,5 @@
 // What a chart of the days of a month shows: the sums of its days, the largest of them, and how high a bar is.
+#![tactic(auto)]
 ghost use Rattle.std.specs.Prelude.{◌≡◌, cond, ◌+◌, ◌*◌, ◌≤◌, ltb};
 ghost use Rattle.charts.specs.Charts.{hour_of, day_sum, largest_day, reaches_above};
 

@@ -1,4 +1,5 @@
 // The closing of a month (document 01, 'Closing').
+#![tactic(auto)]
 ghost use Rattle.std.specs.Prelude.{◌≡◌};
 ghost use Rattle.marks.specs.Marks.{survey_of, capacity_in};
 ghost use Rattle.rules.specs.Calls.Call.{closing};

@@ -1,4 +1,5 @@
 // The contract of a point: its meters, and the basis of its power with what that basis uses.
+#![tactic(auto)]
 ghost use Rattle.std.specs.Prelude.{◌≡◌};
 ghost use Rattle.contract.specs.Contract.{meters_fit, is_agreed, no_cable, keeping};
 
@@ -8,7 +9,7 @@ use units::Kw;
 // What the meters are and where the power comes from. The billing meter is 1 interval or 2 integral; the control meter
 // 0 none, 1 interval or 2 integral; the basis 1 an agreed power, 2 a share of an agreed power, 3 a cable.
 #[repr(C)]
-#[derive(Drop)]
+#[derive(Clone, Copy)]
 pub struct Contract {
     pub billing: u32,
     pub control: u32,

@@ -1,5 +1,6 @@
 // Which ground a month is closed on (document 01, 'Closing'): the first that fits, in the order of its table: 1, 2, 3, 4, 6,
 // 5, 7, 8, 9.
+#![tactic(auto)]
 ghost use Rattle.std.specs.Prelude.{◌≡◌, true, ◌-◌, ◌*◌, ◌≤◌, min};
 ghost use Rattle.units.specs.Volumes.{greatest_volume_read};
 ghost use Rattle.power.specs.Power.{cable_fits};

@@ -1,5 +1,6 @@
 // The nine grounds of a closing (document 01, 'Closing'), one function a ground. Each puts its hours into the buffer.
 // Which of them a month is closed on is decided where it is closed.
+#![tactic(auto)]
 ghost use Rattle.std.specs.Prelude.{◌≡◌, true, ◌*◌, ◌≤◌, length};
 ghost use Rattle.numbers.specs.Lists.{sum};
 ghost use Rattle.units.specs.Volumes.{greatest_volume_read};
@@ -19,7 +20,7 @@ use power::{Cable, cable_volume};
 use units::{Kw, Kwh, energy};
 
 // The ground that a month is closed on, and its volume.
-#[derive(Drop)]
+#[derive(Clone, Copy)]
 pub struct Found {
     pub ground: u32,
     pub volume: Kwh,

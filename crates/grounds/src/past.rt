@@ -13,7 +13,7 @@ use store::row_fits;
 use units::Kwh;
 
 // The row of a past month and its hours, T'; nothing is found where there is no past.
-#[derive(Drop)]
+#[derive(Clone, Copy)]
 pub struct PastMonth {
     pub found: bool,
     pub row: u32,

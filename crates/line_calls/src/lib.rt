@@ -1,4 +1,5 @@
 // From a line of a history file to the call that it makes on a point.
+#![tactic(auto)]
 ghost use Rattle.std.specs.Prelude.{◌≡◌, length};
 ghost use Rattle.rules.specs.Calls.Call.{closing};
 ghost use Rattle.model.specs.Model.{state, Does};

@@ -1,4 +1,5 @@
 // One line of a history: read, its call made on the point, its answer written.
+#![tactic(auto)]
 ghost use Rattle.std.specs.Prelude.{◌≡◌};
 ghost use Rattle.numbers.specs.Lists.{zeros};
 ghost use Rattle.model.specs.Model.{state};
@@ -18,7 +19,7 @@ use sheets::months::{Month, put_month_record, put_sheet};
 use sheets::records::put_hours;
 
 // How the answers are written: as records for programs, and with the hours of each closed month.
-#[derive(Drop)]
+#[derive(Clone, Copy)]
 pub struct Layout {
     pub tab: bool,
     pub table: bool,
@@ -26,7 +27,7 @@ pub struct Layout {
 
 // How far the command has got: the record of the point, the counts of all files, the number of the file and of the line,
 // how many of its bytes are there and whether there were too many, and the place behind what is written.
-#[derive(Drop)]
+#[derive(Clone, Copy)]
 pub struct Progress {
     pub record: Record,
     pub counts: Counts,

@@ -1,5 +1,6 @@
 // One line of a history file (docs/HISTORY-FILE.md): from its bytes to a call and its arguments, or to an error with its
 // place. A line is read token by token; each token takes the line from one mode, which says what is expected, to the next.
+#![tactic(auto)]
 ghost use Rattle.std.specs.Prelude.{◌≡◌};
 ghost use Rattle.line_reader.specs.Lines.{fresh_line, after_token, after_token_in_call, next_token, line_read, read_token, read_line};
 
@@ -24,7 +25,7 @@ use lists::{in_counted, in_day, in_group, in_list};
 // The list of numbers that a line brings, as far as it is read: the largest number that it takes; how many numbers it has,
 // and how many stand between the parentheses that are open; the count that was read last, and that of the parentheses;
 // their depth; whether a part is still missing. The last two say what the token adds: see `buffers`.
-#[derive(Drop)]
+#[derive(Clone, Copy)]
 pub struct Numbers {
     pub limit: u64,
     pub count: u32,
@@ -39,7 +40,7 @@ pub struct Numbers {
 
 // A line as far as it is read: what is expected next, and where; the call; the error, and the place of its token
 // from 0; the argument that is read, the values of the arguments, and the list.
-#[derive(Drop)]
+#[derive(Clone, Copy)]
 pub struct Line {
     pub mode: u32,
     pub at: usize,

@@ -1,4 +1,5 @@
 // The tokens of a line of a history file (docs/HISTORY-FILE.md, 'Words of a line').
+#![tactic(auto)]
 ghost use Rattle.std.specs.Prelude.{◌≡◌, ◌-◌, ltb};
 ghost use Rattle.line_tokens.specs.Tokens.{class_of, span_from, byte_at, place_behind, Counting, grown_by, value_of, number_token, word_token, token_at};
 
@@ -28,7 +29,7 @@ pub const COUNT: u32 = 9;
 pub const LONG: u32 = 10;
 
 // What stands at a place of a line: its kind, the value of a number, count or word, its first byte and the one behind it.
-#[derive(Drop)]
+#[derive(Clone, Copy)]
 pub struct Token {
     pub kind: u32,
     pub value: u64,

@@ -7,7 +7,7 @@ use super::Survey;
 use numbers::bit;
 
 // The peak hours and the capacity hours of a day.
-#[derive(Drop)]
+#[derive(Clone, Copy)]
 pub struct Day {
     pub peaks: u64,
     pub capacities: u64,

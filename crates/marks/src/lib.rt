@@ -1,4 +1,5 @@
 // Marks of a month's hours: what number 41, 42 or 43 refuses, the counts n and d, the sum C and capacity.
+#![tactic(auto)]
 ghost use Rattle.std.specs.Prelude.{◌≡◌, cond, ◌≤◌};
 ghost use Rattle.numbers.specs.Lists.{at};
 ghost use Rattle.marks.specs.Marks.{capacity_at, survey_of, capacity_sum, capacity_in};
@@ -11,7 +12,7 @@ use numbers::{half_up, least, word_at};
 use units::{Kw, Kwh};
 
 // What the marks of a month say: whether 41, 42 and 43 apply, n and d.
-#[derive(Drop)]
+#[derive(Clone, Copy)]
 pub struct Survey {
     pub high: bool,
     pub crowded: bool,

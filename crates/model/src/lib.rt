@@ -1,4 +1,5 @@
 // What every call answers, and the lists of refusals that several calls share.
+#![tactic(auto)]
 ghost use Rattle.std.specs.Prelude.{◌≡◌};
 ghost use Rattle.model.specs.Refusals.{refuse, refuse_anyone, refuse_reading};
 ghost use Rattle.model.specs.Model.{without_figures};
@@ -10,7 +11,7 @@ use validity::is_valid;
 
 // The number of the refusal, 0 for none; the record after the call; and a closing's ground and figures, else 0.
 #[repr(C)]
-#[derive(Drop)]
+#[derive(Clone, Copy)]
 pub struct Answer {
     pub refusal: u32,
     pub after: Record,

@@ -1,4 +1,6 @@
 // Numbers and lists of numbers: what the rules of every other crate are written with.
+#![tactic(auto)]
+
 ghost use Rattle.std.specs.Prelude.{◌≡◌, cond, min, ◌≤◌, length};
 ghost use Rattle.numbers.specs.Lists.{sum_to, at, zeros, none_above};
 ghost use Rattle.numbers.specs.Rounding.{half_up};
@@ -46,6 +48,7 @@ pub fn least(a: u64, b: u64) -> u64
 }
 
 // x / d rounded half up, and 0 where d is 0.
+#[tactic(auto, unfolding(crate::specs::Rounding::half_up))]
 pub fn half_up(x: u64, d: u64) -> u64
     ensures { result ≡ half_up x d }
 {
@@ -72,6 +75,7 @@ pub fn clear(words: &mut [u32])
 }
 
 // Whether no word is above the limit. The flag has no early return, so that the loop takes several words at a time.
+#[tactic(auto, unfolding(crate::specs::Lists::none_above))]
 pub fn none_above(words: &[u32], limit: u32) -> bool
     ensures { result ≡ none_above limit words.now }
 {

@@ -1,4 +1,5 @@
 // Opening a point, on its three bases.
+#![tactic(auto)]
 ghost use Rattle.std.specs.Prelude.{◌≡◌};
 ghost use Rattle.model.specs.Refusals.{open_refusal};
 ghost use Rattle.model.specs.Opening.{Opens};

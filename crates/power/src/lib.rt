@@ -1,4 +1,5 @@
 // P, the power of a delivery point on its three bases, and the cable formula.
+#![tactic(auto)]
 ghost use Rattle.std.specs.Prelude.{◌≡◌, ◌&&◌, ◌≤◌, length};
 ghost use Rattle.numbers.specs.Lists.{all_to};
 ghost use Rattle.power.specs.Power.{formula, cable_fits, formula_in, agreed_fits, current_fits, list_fits, shared_power, power_in, basis_fits, power_on};
@@ -10,7 +11,7 @@ use units::{Kw, Kwh};
 
 // A cable: I in amperes, U in volts, c in thousandths of cos φ, which is 0 where it is missing, and its phases.
 #[repr(C)]
-#[derive(Drop)]
+#[derive(Clone, Copy)]
 pub struct Cable {
     pub amperes: u32,
     pub volts: u32,

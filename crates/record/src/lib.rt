@@ -1,4 +1,5 @@
 // The record of a point (document 01, 'What a point keeps').
+#![tactic(auto)]
 ghost use Rattle.std.specs.Prelude.{◌≡◌};
 ghost use Rattle.record.specs.Record.{no_past, zero_record, fresh_record};
 
@@ -12,7 +13,7 @@ pub mod changes;
 // The run of missed months, whether the point is in service, denials of access, and the month of the last fault by its
 // number, 0 for none. A flag is a number, 1 for yes and 0 for no, so that a record of any bits can be judged.
 #[repr(C)]
-#[derive(Drop)]
+#[derive(Clone, Copy)]
 pub struct Service {
     pub run: u32,
     pub serving: u32,
@@ -22,7 +23,7 @@ pub struct Service {
 
 // For each calendar month the year that its row holds, 0 for none, and the latest past month by its number, 0 for none.
 #[repr(C)]
-#[derive(Drop)]
+#[derive(Clone, Copy)]
 pub struct Past {
     pub years: [u32; 12],
     pub latest: u64,
@@ -30,7 +31,7 @@ pub struct Past {
 
 // Whether a reading is given, 1 or 0, and the volume of an integral or neighbour one, else 0.
 #[repr(C)]
-#[derive(Drop)]
+#[derive(Clone, Copy)]
 pub struct Reading {
     pub given: u32,
     pub volume: Kwh,
@@ -38,7 +39,7 @@ pub struct Reading {
 
 // This month's readings: of the billing meter, of the control meter, and of the neighbour's billing and control meters.
 #[repr(C)]
-#[derive(Drop)]
+#[derive(Clone, Copy)]
 pub struct Readings {
     pub billing: Reading,
     pub control: Reading,
@@ -48,7 +49,7 @@ pub struct Readings {
 
 // What a point keeps from call to call, besides the store.
 #[repr(C)]
-#[derive(Drop)]
+#[derive(Clone, Copy)]
 pub struct Record {
     pub opened: u32,
     pub contract: Contract,

@@ -92,7 +92,7 @@ fn play_bytes(
 }
 
 // What one read of a file gave: nothing is left, it cannot be read, or some bytes were played.
-#[derive(Drop)]
+#[derive(Clone, Copy)]
 pub struct Step {
     pub more: bool,
     pub failed: bool,

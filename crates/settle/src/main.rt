@@ -1,4 +1,5 @@
 // settle plays histories that are written as text (docs/HISTORY-FILE.md) and prints what each call answers.
+#![tactic(auto)]
 ghost use Rattle.std.specs.Prelude.{◌≡◌, length};
 
 mod files;

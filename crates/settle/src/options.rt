@@ -4,7 +4,7 @@ use line_player::Layout;
 
 // Whether help is printed, which argument is an option that is not known, 0 for none, how the answers are written, and how
 // many files there are.
-#[derive(Drop)]
+#[derive(Clone, Copy)]
 pub struct Options {
     pub help: bool,
     pub unknown: usize,

@@ -1,5 +1,6 @@
 // Sharing a volume over the hours of a month (document 01, 'Sharing a volume').
 // A selection of hours is a slice of flags, one an hour, so its length is the number of hours.
+#![tactic(auto)]
 ghost use Rattle.std.specs.Prelude.{◌≡◌, ◌&&◌, ◌+◌, ◌≤◌, length};
 ghost use Rattle.numbers.specs.Lists.{sum_to, padded};
 ghost use Rattle.units.specs.Volumes.{greatest_month_volume};

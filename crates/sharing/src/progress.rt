@@ -4,7 +4,7 @@ ghost use Rattle.sharing.specs.Shares.{portion};
 ghost use Rattle.sharing.specs.Underway.{started, stepped, QuotientFits, Ready, Gains, Gained};
 
 // A sharing under way: the volume V, the sum S of all weights, and of both what the hours so far have.
-#[derive(Drop)]
+#[derive(Clone, Copy)]
 pub struct Progress {
     pub volume: u64,
     pub whole: u64,

@@ -6,7 +6,7 @@ use numbers::wide;
 use text::put;
 
 // How many calls were accepted and how many refused, and how many lines were errors.
-#[derive(Drop)]
+#[derive(Clone, Copy)]
 pub struct Counts {
     pub accepted: u64,
     pub refused: u64,

@@ -11,7 +11,7 @@ use text::put;
 use units::Kwh;
 
 // A closed month: its line and date, T, the figures of its closing, why, and the total behind it.
-#[derive(Drop)]
+#[derive(Clone, Copy)]
 pub struct Month {
     pub line: u64,
     pub date: Date,

@@ -1,5 +1,6 @@
 // The rows of the store (document 01, 'What a point keeps'): 14 rows of 744 words. A row is lent as a part of the store,
 // so that no other word can change.
+#![tactic(auto)]
 ghost use Rattle.std.specs.Prelude.{◌≡◌, cond, ◌&&◌, [], ◌≤◌, eqb, length};
 ghost use Rattle.numbers.specs.Lists.{at, padded, Filled};
 ghost use Rattle.store.specs.Store.{row_fits, written_in, read_from, empty_store, store_fits};

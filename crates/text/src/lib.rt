@@ -1,5 +1,6 @@
 // Text and numbers into a buffer that the caller lends, at a place; the answer is the place behind them. Text for which
 // there is no room is left out whole.
+#![tactic(auto)]
 ghost use Rattle.text.specs.Text.{Put, Numbered};
 
 // A text at a place of the buffer. Where it has no room nothing changes, and the place stays.

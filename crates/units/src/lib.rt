@@ -1,16 +1,17 @@
 // Powers and volumes. Each has a type of its own, so that a power in kW never stands where a volume in kWh is due.
+#![tactic(auto)]
 ghost use Rattle.std.specs.Prelude.{◌≡◌, ◌*◌};
 
 use numbers::wide;
 
 // A power in whole kW.
 #[repr(C)]
-#[derive(Drop)]
+#[derive(Clone, Copy)]
 pub struct Kw(pub u32);
 
 // A volume in whole kWh.
 #[repr(C)]
-#[derive(Drop)]
+#[derive(Clone, Copy)]
 pub struct Kwh(pub u64);
 
 // The greatest volumes: that a meter can read in a month, 744 hours of 1,000,000; that a month can be closed with, 744 hours

@@ -1,4 +1,5 @@
 // Number 2: whether a record is one that a point can have. Each function tests one part, in the order of its definition.
+#![tactic(auto)]
 ghost use Rattle.std.specs.Prelude.{◌≡◌, ◌+◌, ◌<◌};
 ghost use Rattle.numbers.specs.Lists.{all_to};
 ghost use Rattle.validity.specs.Valid.{all_of, is_no_cable, rest_is_zero, contract_tests, service_tests, year_before, year_fits, latest_in_row};
