@@ -1,5 +1,6 @@
 // Powers and volumes. Each has a type of its own, so that a power in kW never stands where a volume in kWh is due.
 #![tactic(auto)]
+
 ghost use Rattle.std.specs.Prelude.{◌≡◌, ◌*◌};
 
 use numbers::wide;
