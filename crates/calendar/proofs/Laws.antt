@@ -58,7 +58,7 @@ days d h =
     rw h (either (leap_year d.year && eqb d.month 2) 29 _ (lit≤ tt, lit≤ tt) (entry month_table (d.month - 1) refl (omega arith)))
 
 -- February has the same days by the cases of the Gregorian rule and by the condition for leap years
-same_february : (y : ℕ) → february_days y ≡ cond (leap_year y) 29 28
+pub same_february : (y : ℕ) → february_days y ≡ cond (leap_year y) 29 28
 unfolding february_days leap_year
 same_february y =
     by_cases (eqb (y % 400) 0)

@@ -1,4 +1,5 @@
 #![tactic(auto)]
+
 ghost use Rattle.std.specs.Prelude.{◌≡◌};
 ghost use Rattle.calendar.specs.Calendar.{is_month, month_days, february_days, SameLengths, month_hours, is_end, is_open, open_hours};
 ghost use Rattle.calendar.specs.Calendar.{month_number, is_month_number, date_in, next_in};
@@ -17,6 +18,7 @@ pub struct Date {
 const DAYS: [u32; 12] = [31, 28, 31, 30, 31, 30, 31, 31, 30, 31, 30, 31];
 
 // February's days in year `y`, by the cases of the Gregorian rule in its own order: divisible by 400, by 100, by 4, otherwise.
+#[tactic(auto, unfolding(crate::specs::Calendar::february_days))]
 fn february_days(y: u32) -> u32
     ensures { result ≡ february_days y }
 {
@@ -35,6 +37,7 @@ fn february_days(y: u32) -> u32
 }
 
 // Whether `d` is one of the months that are calculated, January 2014 to December 2999.
+#[tactic(auto, unfolding(crate::specs::Calendar::is_month))]
 pub fn is_month(d: Date) -> bool
     ensures { result ≡ is_month d }
 {
@@ -42,6 +45,7 @@ pub fn is_month(d: Date) -> bool
 }
 
 // The days of month `d`; 0 where it is none of the months that are calculated, so that any date may be asked for.
+#[tactic(auto, using(crate::proofs::Laws::limits, crate::proofs::Laws::same_february), unfolding(crate::specs::Calendar::month_days))]
 pub fn month_days(d: Date) -> u32
     ensures { result ≡ month_days d }
 {
@@ -57,11 +61,13 @@ pub fn month_days(d: Date) -> u32
 
 // Whether February goes by the cases of the Gregorian rule or by one condition for leap years, every date has the same length, 0 outside
 // the limits included. The theorem is the contract of a function that does nothing, so that it stands among the contracts.
+#[tactic(auto, using(crate::proofs::Laws::same_length))]
 pub fn same_lengths()
     ensures { SameLengths }
 {}
 
 // T, the hours of month `d`: 24 for each day.
+#[tactic(auto, using(crate::proofs::Laws::days_high), unfolding(crate::specs::Calendar::month_hours))]
 pub fn month_hours(d: Date) -> u32
     ensures { result ≡ month_hours d }
 {
@@ -83,6 +89,7 @@ pub fn is_open(d: Date) -> bool
 }
 
 // T of a month that a record has open. January 3000 follows the last month that is closed, so it has its 744 hours here.
+#[tactic(auto, unfolding(crate::specs::Calendar::open_hours))]
 pub fn open_hours(d: Date) -> u32
     ensures { result ≡ open_hours d }
 {
@@ -90,6 +97,7 @@ pub fn open_hours(d: Date) -> u32
 }
 
 // The number of month `d`, by which months are counted and compared: any two that follow each other are one apart.
+#[tactic(auto, unfolding(crate::specs::Calendar::month_number))]
 pub fn month_number(d: Date) -> u64
     ensures { result ≡ month_number d }
 {
@@ -104,6 +112,7 @@ pub fn is_month_number(n: u64) -> bool
 }
 
 // The month whose number is `n`, from January 2014 to January 3000; else year 0 and month 0, so that any number may be asked for.
+#[tactic(auto, unfolding(crate::specs::Calendar::date_in, crate::specs::Calendar::date_of))]
 pub fn date_of(n: u64) -> Date
     ensures { result ≡ date_in n }
 {
@@ -122,6 +131,7 @@ pub fn date_of(n: u64) -> Date
 }
 
 // The month after `d`; `d` itself where it is none of the months that are calculated, so that no date is left without an answer.
+#[tactic(auto, using(crate::proofs::Laws::limits), unfolding(crate::specs::Calendar::next_in, crate::specs::Calendar::next_month))]
 pub fn next_month(d: Date) -> Date
     ensures { result ≡ next_in d }
 {
