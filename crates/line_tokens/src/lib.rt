@@ -1,5 +1,6 @@
 // The tokens of a line of a history file (docs/HISTORY-FILE.md, 'Words of a line').
 #![tactic(auto)]
+
 ghost use Rattle.std.specs.Prelude.{◌≡◌, ◌-◌, ltb};
 ghost use Rattle.line_tokens.specs.Tokens.{class_of, span_from, byte_at, place_behind, Counting, grown_by, value_of, number_token, word_token, token_at};
 
@@ -38,6 +39,7 @@ pub struct Token {
 }
 
 // The kind of a byte.
+#[tactic(auto, unfolding(crate::specs::Tokens::class_of))]
 pub fn class_of(b: u8) -> u32
     ensures { result ≡ class_of b }
 {
@@ -67,6 +69,7 @@ pub fn span(line: &[u8], from: usize, class: u32) -> usize
 }
 
 // A byte of the line; past its end the byte that ends it.
+#[tactic(auto, unfolding(crate::specs::Tokens::byte_at))]
 fn byte_at(line: &[u8], i: usize) -> u8
     ensures { result ≡ byte_at line.now i }
 {
@@ -74,6 +77,7 @@ fn byte_at(line: &[u8], i: usize) -> u8
 }
 
 // The place behind a byte of the line; at its end the end.
+#[tactic(auto, unfolding(crate::specs::Tokens::place_behind))]
 fn behind(line: &[u8], i: usize) -> usize
     ensures { result ≡ place_behind line.now i }
 {
@@ -95,6 +99,7 @@ fn wide_byte(b: u8) -> u64
 
 // What the value is after one more digit or letter, whose low bits are its own value. The value stops growing where no
 // number of 18 digits and no word of 12 letters comes, so that it fits.
+#[tactic(auto, unfolding(crate::specs::Tokens::grown_by))]
 fn grown(v: u64, b: u8, base: u64, low: u64) -> u64
     requires { Counting base low }
     ensures { result ≡ grown_by base low v b }
@@ -117,6 +122,7 @@ fn value(line: &[u8], from: usize, to: usize, base: u64, low: u64) -> u64
 }
 
 // A number or a count, whose first digit stands at `from`.
+#[tactic(auto, unfolding(crate::specs::Tokens::number_token))]
 fn number_token(line: &[u8], from: usize) -> Token
     ensures { result ≡ number_token line.now from }
 {
@@ -135,6 +141,7 @@ fn number_token(line: &[u8], from: usize) -> Token
 }
 
 // A word, whose first letter stands at `from`.
+#[tactic(auto, unfolding(crate::specs::Tokens::word_token))]
 fn word_token(line: &[u8], from: usize) -> Token
     ensures { result ≡ word_token line.now from }
 {
@@ -150,6 +157,7 @@ fn word_token(line: &[u8], from: usize) -> Token
 }
 
 // The token at a place of the line, behind blanks.
+#[tactic(auto, unfolding(crate::specs::Tokens::token_from, crate::specs::Tokens::token_at))]
 pub fn token_at(line: &[u8], at: usize) -> Token
     ensures { result ≡ token_at line.now at }
 {
