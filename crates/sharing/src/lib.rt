@@ -1,6 +1,7 @@
 // Sharing a volume over the hours of a month (document 01, 'Sharing a volume').
 // A selection of hours is a slice of flags, one an hour, so its length is the number of hours.
 #![tactic(auto)]
+
 ghost use Rattle.std.specs.Prelude.{◌≡◌, ◌&&◌, ◌+◌, ◌≤◌, length};
 ghost use Rattle.numbers.specs.Lists.{sum_to, padded};
 ghost use Rattle.units.specs.Volumes.{greatest_month_volume};
@@ -20,6 +21,7 @@ use units::{GREATEST_MONTH_VOLUME, GREATEST_VOLUME_READ, Kw, Kwh};
 use weights::{count, total, whole_of};
 
 // Whether a volume, a number of hours and a buffer's length are within the limits.
+#[tactic(auto, unfolding(crate::specs::Shares::month_fits))]
 fn month_fits(v: u64, t: usize, room: usize) -> bool
     ensures { result ≡ month_fits v t room }
 {
@@ -27,6 +29,7 @@ fn month_fits(v: u64, t: usize, room: usize) -> bool
 }
 
 // The same for the sum of two volumes.
+#[tactic(auto, using(crate::proofs::Rule::month_unfit))]
 fn both_fit(a: u64, b: u64, t: usize, room: usize) -> bool
     ensures { result ≡ month_fits (a + b) t room }
 {
@@ -53,6 +56,7 @@ fn by_past(v: u64, s: u64, past: &[u32], chosen: &[bool], hours: &mut [u32])
 
 // The volume shared by the past over the chosen hours, 0 in the others and in the rest of the buffer. Where the numbers
 // do not fit the answer is false, and the buffer is as it was.
+#[tactic(auto, using(crate::proofs::Rule::month_fits_lem), unfolding(crate::specs::Shares::weights_fit))]
 pub fn share_by_past(volume: Kwh, past: &[u32], chosen: &[bool], hours: &mut [u32]) -> bool
     ensures { Shared
         (month_fits volume.0 (length chosen.now) (length hours.old)
@@ -85,6 +89,7 @@ fn evenly(v: u64, chosen: &[bool], hours: &mut [u32])
 
 // The volume shared evenly over the chosen hours, 0 in the others and in the rest of the buffer. Where the numbers do
 // not fit the answer is false, and the buffer is as it was.
+#[tactic(auto, using(crate::proofs::Rule::month_fits_lem))]
 pub fn share_evenly(volume: Kwh, chosen: &[bool], hours: &mut [u32]) -> bool
     ensures { Shared (month_fits volume.0 (length chosen.now) (length hours.old))
         (shares_over volume.0 (chosen_at chosen.now) (ones (length chosen.now)))
@@ -119,6 +124,7 @@ fn apart(a: u64, b: u64, chosen: &[bool], hours: &mut [u32])
 
 // The first volume shared evenly over the chosen hours and the second evenly over the others, and 0 in the rest of the
 // buffer. Where the numbers do not fit the answer is false, and the buffer is as it was.
+#[tactic(auto, using(crate::proofs::Rule::month_fits_lem))]
 pub fn share_apart(first: Kwh, second: Kwh, chosen: &[bool], hours: &mut [u32]) -> bool
     ensures { Shared (month_fits (first.0 + second.0) (length chosen.now) (length hours.old))
         (shares_apart first.0 second.0 (chosen_at chosen.now) (length chosen.now))
@@ -132,6 +138,7 @@ pub fn share_apart(first: Kwh, second: Kwh, chosen: &[bool], hours: &mut [u32]) 
 }
 
 // What one place of a list gets of a number shared by weights, and 0 outside the list or where the numbers do not fit.
+#[tactic(auto, using(crate::proofs::Rule::month_fits_lem))]
 fn share_at(v: u64, weights: &[u32], place: usize) -> u64
     ensures { result ≡ share_in v weights.now place }
 {

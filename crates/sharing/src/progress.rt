@@ -13,6 +13,7 @@ pub struct Progress {
 }
 
 // The quotient of the rule: what of v falls to weights of a out of s.
+#[tactic(auto, unfolding(crate::specs::Shares::portion))]
 pub(crate) fn portion_of(v: u64, a: u64, s: u64) -> u64
     requires { QuotientFits v a s }
     ensures { result ≡ portion v a s }

@@ -76,6 +76,7 @@ pub(crate) fn total(past: &[u32], chosen: &[bool]) -> u64
 }
 
 // The weight by which hour h is taken: s is the sum of the past's weights in the chosen hours, and k their number.
+#[tactic(auto, using(crate::proofs::Rule::taken_is))]
 pub(crate) fn weight_by_past(s: u64, k: u64, past: &[u32], chosen: &[bool], h: usize) -> u64
     requires h_in_bounds { h < length chosen.now }
     requires totals { Totals past.now chosen.now s k }
@@ -92,6 +93,7 @@ fn even_weight(k: u64, chosen: bool) -> u64
 }
 
 // The weight by which hour h is taken in an even sharing over the k chosen hours.
+#[tactic(auto, using(crate::proofs::Rule::even_is))]
 pub(crate) fn weight_chosen(k: u64, chosen: &[bool], h: usize) -> u64
     requires { (h < length chosen.now) × Counts chosen.now k }
     ensures { result ≡ taken (length chosen.now) (chosen_at chosen.now) one h }
@@ -100,6 +102,7 @@ pub(crate) fn weight_chosen(k: u64, chosen: &[bool], h: usize) -> u64
 }
 
 // The same over the m others.
+#[tactic(auto, using(crate::proofs::Rule::even_is))]
 pub(crate) fn weight_other(m: u64, chosen: &[bool], h: usize) -> u64
     requires { (h < length chosen.now) × Others chosen.now m }
     ensures { result ≡ taken (length chosen.now) (other_at chosen.now) one h }

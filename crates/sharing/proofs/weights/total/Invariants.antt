@@ -1,0 +1,12 @@
+-- The sum is that of the past's weights in the first h hours, each below 2^32.
+use Rattle.std.proofs.Common.{◌≡◌, ◌-◌, ◌≤◌, ◌*◌, length}
+use Rattle.numbers.specs.Lists.{sum_to}
+use Rattle.sharing.specs.Shares.{within, past_at, chosen_at}
+use Rattle.sharing.proofs.weights.total.Given as goal
+
+abbrev pub invariant-loop-h : goal.invariant-loop-h
+invariant-loop-h l =
+    (l.h ≤ length l.chosen) × (l.s ≤ 4294967295 * l.h) × (l.s ≡ sum_to (within (chosen_at l.chosen) (past_at l.past)) l.h)
+
+abbrev pub decreases-loop-h : goal.decreases-loop-h
+decreases-loop-h l = length l.chosen - l.h
