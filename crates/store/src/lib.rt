@@ -1,6 +1,7 @@
 // The rows of the store (document 01, 'What a point keeps'): 14 rows of 744 words. A row is lent as a part of the store,
 // so that no other word can change.
 #![tactic(auto)]
+
 ghost use Rattle.std.specs.Prelude.{◌≡◌, cond, ◌&&◌, [], ◌≤◌, eqb, length};
 ghost use Rattle.numbers.specs.Lists.{at, padded, Filled};
 ghost use Rattle.store.specs.Store.{row_fits, written_in, read_from, empty_store, store_fits};
@@ -8,6 +9,7 @@ ghost use Rattle.store.specs.Store.{row_fits, written_in, read_from, empty_store
 use numbers::{clear, none_above};
 
 // Whether the store has the first t hours of a row.
+#[tactic(auto, unfolding(crate::specs::Store::row_fits))]
 pub fn row_fits(size: usize, row: usize, t: usize) -> bool
     ensures { result ≡ row_fits size row t }
 {
@@ -15,6 +17,7 @@ pub fn row_fits(size: usize, row: usize, t: usize) -> bool
 }
 
 // The words of a list into the front of a row.
+#[tactic(auto, using(numbers::proofs::Laws::filled_none, numbers::proofs::Laws::filled_more, numbers::proofs::Laws::filled_end))]
 fn copy_words(row: &mut [u32], hours: &[u32])
     requires { length hours.now ≤ length row.old }
     ensures { Filled (at hours.now) row.old row.new (length hours.now) }
@@ -27,6 +30,7 @@ fn copy_words(row: &mut [u32], hours: &[u32])
 }
 
 // A list of hours into a row, and 0 from its end on.
+#[tactic(auto, using(crate::proofs::Laws::copied))]
 fn copy_row(row: &mut [u32], hours: &[u32])
     requires { length hours.now ≤ length row.old }
     ensures { row.new ≡ padded (length row.old) hours.now }
@@ -37,6 +41,7 @@ fn copy_row(row: &mut [u32], hours: &[u32])
 
 // The hours of a list become row r, with 0 from their end on. A store that is not 14 rows, a row that it does not have,
 // and more hours than a row holds leave the store as it was.
+#[tactic(auto, using(crate::proofs::Laws::row_fits_lem, crate::proofs::Laws::written_part), unfolding(crate::specs::Store::written_in))]
 pub fn write_row(store: &mut [u32], row: usize, hours: &[u32])
     ensures { store.new ≡ written_in row hours.now store.old }
 {
@@ -49,6 +54,7 @@ pub fn write_row(store: &mut [u32], row: usize, hours: &[u32])
 
 // The first t hours of row r into a buffer, with 0 from t on. A store that is not 14 rows, a row that it does not have, and
 // more hours than a row or the buffer holds leave the buffer as it was.
+#[tactic(auto, using(crate::proofs::Laws::read_there, crate::proofs::Laws::row_read), unfolding(crate::specs::Store::read_from))]
 pub fn read_row(store: &[u32], row: usize, t: usize, hours: &mut [u32])
     ensures { hours.new ≡ read_from store.now row t hours.old }
 {
@@ -60,6 +66,7 @@ pub fn read_row(store: &[u32], row: usize, t: usize, hours: &mut [u32])
 }
 
 // Row r becomes 0, and the rest stays.
+#[tactic(auto, using(crate::proofs::Laws::row_fits_lem, crate::proofs::Laws::written_part, crate::proofs::Laws::padded_none), unfolding(crate::specs::Store::written_in))]
 pub fn clear_row(store: &mut [u32], row: usize)
     ensures { store.new ≡ written_in row [] store.old }
 {
@@ -80,6 +87,7 @@ pub fn clear_store(store: &mut [u32])
 }
 
 // Whether the store is 14 rows, with no word above 3,000,000 in rows 0 to 11 and none above 1,000,000 in rows 12 and 13.
+#[tactic(auto, using(crate::proofs::Laws::fits_parts))]
 pub fn store_fits(store: &[u32]) -> bool
     ensures { result ≡ (eqb (length store.now) 10416 && store_fits store.now) }
 {
