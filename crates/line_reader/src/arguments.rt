@@ -11,6 +11,7 @@ use line_tokens::{DASH, END, NUMBER, Token, WORD};
 use numbers::{pick, pick_wide};
 
 // A call begins: what is expected behind its word, and the largest number of its list.
+#[tactic(auto, unfolding(crate::specs::Modes::begun))]
 fn begin(s: Line, call: u32) -> Line
     ensures { result ≡ begun call s }
 {
@@ -36,6 +37,7 @@ fn begin(s: Line, call: u32) -> Line
     set_list(set_call(ask(s, key), call), mode, numbers)
 }
 
+#[tactic(auto, unfolding(crate::specs::Modes::in_call))]
 pub(crate) fn in_call(s: Line, t: Token) -> Line
     ensures { result ≡ in_call s t }
 {
@@ -50,6 +52,7 @@ pub(crate) fn in_call(s: Line, t: Token) -> Line
 }
 
 // The value of the argument is there: what is expected behind it.
+#[tactic(auto, unfolding(crate::specs::Modes::value_taken))]
 fn take(s: Line, value: u64) -> Line
     ensures { result ≡ value_taken value s }
 {
@@ -61,6 +64,7 @@ fn take(s: Line, value: u64) -> Line
     to_mode(ask(store_value(s, key, value), next), mode)
 }
 
+#[tactic(auto, unfolding(crate::specs::Modes::in_value))]
 pub(crate) fn in_value(s: Line, t: Token) -> Line
     ensures { result ≡ in_value s t }
 {
@@ -77,6 +81,7 @@ pub(crate) fn in_value(s: Line, t: Token) -> Line
     take(s, value)
 }
 
+#[tactic(auto, unfolding(crate::specs::Modes::in_dash))]
 pub(crate) fn in_dash(s: Line, t: Token) -> Line
     ensures { result ≡ in_dash s t }
 {
@@ -87,6 +92,7 @@ pub(crate) fn in_dash(s: Line, t: Token) -> Line
 }
 
 // The value of an argument as far as it is read, and ABSENT where there is no such argument.
+#[tactic(auto, unfolding(crate::specs::Modes::value_in))]
 pub fn value_of(s: Line, key: u32) -> u64
     ensures { result ≡ value_in key s }
 {
@@ -96,6 +102,7 @@ pub fn value_of(s: Line, key: u32) -> u64
 }
 
 // The word of an argument.
+#[tactic(auto, unfolding(crate::specs::Modes::named_as))]
 fn named(s: Line, t: Token, key: u32) -> Line
     ensures { result ≡ named_as key s t }
 {
@@ -111,6 +118,7 @@ fn named(s: Line, t: Token, key: u32) -> Line
     ask(s, key)
 }
 
+#[tactic(auto, unfolding(crate::specs::Modes::in_argument))]
 pub(crate) fn in_argument(s: Line, t: Token) -> Line
     ensures { result ≡ in_argument s t }
 {
@@ -120,6 +128,7 @@ pub(crate) fn in_argument(s: Line, t: Token) -> Line
     named(s, t, pick(t.kind == WORD, key_of(t.value), names::NO_KEY))
 }
 
+#[tactic(auto, unfolding(crate::specs::Modes::in_form))]
 pub(crate) fn in_form(s: Line, t: Token) -> Line
     ensures { result ≡ in_form s t }
 {
@@ -135,6 +144,7 @@ pub(crate) fn in_form(s: Line, t: Token) -> Line
     fail(s, errors::FORM, t.from)
 }
 
+#[tactic(auto, unfolding(crate::specs::Modes::in_last))]
 pub(crate) fn in_last(s: Line, t: Token) -> Line
     ensures { result ≡ in_last s t }
 {

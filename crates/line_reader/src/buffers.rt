@@ -20,6 +20,7 @@ fn fill(words: &mut [u32], value: u32)
 
 // The place between the parentheses from which hour k comes: round and round, or by the day of the week, of which Monday
 // is 0 and Saturday and Sunday have the second day.
+#[tactic(auto, unfolding(crate::specs::Buffers::place_for))]
 fn place_for(week: bool, inner: u32, first: u32, k: usize) -> usize
     ensures { result ≡ place_for week inner first k }
 {
@@ -48,6 +49,7 @@ fn expand(words: &mut [u32], group: &[u32], week: bool, inner: u32, first: u32)
 }
 
 // The words from one place to another become a value. Places that are not there leave all as it was.
+#[tactic(auto, unfolding(crate::specs::Buffers::part))]
 fn fill_part(words: &mut [u32], from: u32, to: u32, value: u32)
     ensures { words.new ≡ part from to (λ k. value) words.old }
 {
@@ -59,6 +61,7 @@ fn fill_part(words: &mut [u32], from: u32, to: u32, value: u32)
 }
 
 // The same from the numbers between parentheses.
+#[tactic(auto, unfolding(crate::specs::Buffers::part))]
 fn expand_part(
     words: &mut [u32],
     from: u32,
@@ -78,6 +81,7 @@ fn expand_part(
 }
 
 // Writes what a token adds to the list, from the list before it and behind it.
+#[tactic(auto, unfolding(crate::specs::Buffers::written_numbers, crate::specs::Buffers::written_group))]
 pub(crate) fn write(
     before: Numbers,
     after: Numbers,

@@ -1,6 +1,7 @@
 // One line of a history file (docs/HISTORY-FILE.md): from its bytes to a call and its arguments, or to an error with its
 // place. A line is read token by token; each token takes the line from one mode, which says what is expected, to the next.
 #![tactic(auto)]
+
 ghost use Rattle.std.specs.Prelude.{◌≡◌};
 ghost use Rattle.line_reader.specs.Lines.{fresh_line, after_token, after_token_in_call, next_token, line_read, read_token, read_line};
 
@@ -110,6 +111,7 @@ pub fn fresh_line() -> Line
 }
 
 // What a token does to a line that is not finished. `hours` is T of the open month.
+#[tactic(auto, unfolding(crate::specs::Lines::after_token))]
 fn step(s: Line, t: Token, hours: u32) -> Line
     ensures { result ≡ after_token hours s t }
 {
@@ -130,6 +132,7 @@ fn step(s: Line, t: Token, hours: u32) -> Line
 }
 
 // The same outside lists.
+#[tactic(auto, unfolding(crate::specs::Lines::after_token_in_call))]
 fn step_in_call(s: Line, t: Token) -> Line
     ensures { result ≡ after_token_in_call s t }
 {
@@ -145,6 +148,7 @@ fn step_in_call(s: Line, t: Token) -> Line
 }
 
 // The line behind a token, with what it adds to the list still to be written.
+#[tactic(auto, unfolding(crate::specs::Lines::next_token))]
 fn next_token(line: &[u8], s: Line, hours: u32) -> Line
     ensures { result ≡ next_token hours line.now s }
 {
@@ -157,6 +161,7 @@ fn next_token(line: &[u8], s: Line, hours: u32) -> Line
 }
 
 // One token more, and what it adds to the list. A line that is finished stays.
+#[tactic(auto, unfolding(crate::specs::Lines::read_token))]
 fn read_token(
     line: &[u8],
     s: Line,

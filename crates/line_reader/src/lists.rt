@@ -26,6 +26,7 @@ fn low(x: u64) -> u32
 }
 
 // The list with a number added so many times: between parentheses where they are open.
+#[tactic(auto, unfolding(crate::specs::Modes::added_to))]
 fn add(n: Numbers, times: u32, value: u64) -> Numbers
     ensures { result ≡ added_to n times value }
 {
@@ -51,6 +52,7 @@ fn together(count: u32, inner: u32, times: u32) -> u64
 }
 
 // A number of the list, so many times.
+#[tactic(auto, unfolding(crate::specs::Modes::adding))]
 fn add_number(s: Line, t: Token, times: u32) -> Line
     ensures { result ≡ adding times s t }
 {
@@ -69,6 +71,7 @@ fn add_number(s: Line, t: Token, times: u32) -> Line
 }
 
 // A count: what it repeats is expected.
+#[tactic(auto, unfolding(crate::specs::Modes::counting))]
 fn add_count(s: Line, t: Token) -> Line
     ensures { result ≡ counting s t }
 {
@@ -82,6 +85,7 @@ fn add_count(s: Line, t: Token) -> Line
 }
 
 // A word in a list: the next argument of an opening, the working-day pattern, or the empty list.
+#[tactic(auto, unfolding(crate::specs::Modes::word_in))]
 fn word_in_list(s: Line, t: Token) -> Line
     ensures { result ≡ word_in s t }
 {
@@ -101,6 +105,7 @@ fn word_in_list(s: Line, t: Token) -> Line
     fail(s, errors::PART, t.from)
 }
 
+#[tactic(auto, unfolding(crate::specs::Modes::in_list))]
 pub(crate) fn in_list(s: Line, t: Token) -> Line
     ensures { result ≡ in_list s t }
 {
@@ -126,6 +131,7 @@ fn repeated(count: u32, times: u32, inner: u32) -> u64
 }
 
 // The list behind closed parentheses.
+#[tactic(auto, unfolding(crate::specs::Modes::closed_numbers))]
 fn closed(n: Numbers, count: u64, action: u32) -> Numbers
     ensures { result ≡ closed_numbers n count action }
 {
@@ -140,6 +146,7 @@ fn closed(n: Numbers, count: u64, action: u32) -> Numbers
 }
 
 // The parentheses close: those of a repetition, or of the first or second day of a week.
+#[tactic(auto, unfolding(crate::specs::Modes::group_closed))]
 fn close_group(s: Line, t: Token, hours: u32) -> Line
     ensures { result ≡ group_closed hours s t }
 {
@@ -165,6 +172,7 @@ fn close_group(s: Line, t: Token, hours: u32) -> Line
     )
 }
 
+#[tactic(auto, unfolding(crate::specs::Modes::in_group))]
 pub(crate) fn in_group(s: Line, t: Token, hours: u32) -> Line
     ensures { result ≡ in_group hours s t }
 {
@@ -182,6 +190,7 @@ pub(crate) fn in_group(s: Line, t: Token, hours: u32) -> Line
 }
 
 // The list with parentheses opened.
+#[tactic(auto, unfolding(crate::specs::Modes::opened_numbers))]
 fn opened(n: Numbers, depth: u32) -> Numbers
     ensures { result ≡ opened_numbers n depth }
 {
@@ -192,6 +201,7 @@ fn opened(n: Numbers, depth: u32) -> Numbers
     r
 }
 
+#[tactic(auto, unfolding(crate::specs::Modes::in_counted))]
 pub(crate) fn in_counted(s: Line, t: Token) -> Line
     ensures { result ≡ in_counted s t }
 {
@@ -205,6 +215,7 @@ pub(crate) fn in_counted(s: Line, t: Token) -> Line
     fail(s, errors::COUNTED, t.from)
 }
 
+#[tactic(auto, unfolding(crate::specs::Modes::in_day))]
 pub(crate) fn in_day(s: Line, t: Token) -> Line
     ensures { result ≡ in_day s t }
 {

@@ -39,6 +39,7 @@ pub const VOLUME: u32 = 14;
 pub const NO_KEY: u32 = 15;
 
 // The call that a word starts; the call of a meter's hours stands for both of its readings.
+#[tactic(auto, unfolding(crate::specs::Names::call_of))]
 pub(crate) fn call_of(w: u64) -> u32
     ensures { result ≡ call_of w }
 {
@@ -54,6 +55,7 @@ pub(crate) fn call_of(w: u64) -> u32
 }
 
 // The argument that a word of an opening names.
+#[tactic(auto, unfolding(crate::specs::Names::key_of))]
 pub(crate) fn key_of(w: u64) -> u32
     ensures { result ≡ key_of w }
 {
@@ -70,6 +72,7 @@ pub(crate) fn key_of(w: u64) -> u32
 }
 
 // The kind of a meter or a basis that a word stands for.
+#[tactic(auto, unfolding(crate::specs::Names::contract_word))]
 fn contract_word(key: u32, w: u64) -> u64
     ensures { result ≡ contract_word key w }
 {
@@ -84,6 +87,7 @@ fn contract_word(key: u32, w: u64) -> u64
 }
 
 // The source of a neighbour reading or the reason of a failure.
+#[tactic(auto, unfolding(crate::specs::Names::event_word))]
 fn event_word(key: u32, w: u64) -> u64
     ensures { result ≡ event_word key w }
 {
@@ -98,6 +102,7 @@ fn event_word(key: u32, w: u64) -> u64
 }
 
 // The number that a word stands for as the value of an argument.
+#[tactic(auto, unfolding(crate::specs::Names::word_value))]
 pub(crate) fn word_value(key: u32, w: u64) -> u64
     ensures { result ≡ word_value key w }
 {
@@ -106,6 +111,7 @@ pub(crate) fn word_value(key: u32, w: u64) -> u64
 }
 
 // The error of an argument whose value is missing.
+#[tactic(auto, unfolding(crate::specs::Names::expected_for))]
 pub(crate) fn expected(key: u32) -> u32
     ensures { result ≡ expected_for key }
 {
@@ -116,6 +122,7 @@ pub(crate) fn expected(key: u32) -> u32
 }
 
 // The largest number that an argument takes.
+#[tactic(auto, unfolding(crate::specs::Names::largest_for))]
 pub(crate) fn largest(key: u32) -> u64
     ensures { result ≡ largest_for key }
 {
