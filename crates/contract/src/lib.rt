@@ -1,5 +1,6 @@
 // The contract of a point: its meters, and the basis of its power with what that basis uses.
 #![tactic(auto)]
+
 ghost use Rattle.std.specs.Prelude.{◌≡◌};
 ghost use Rattle.contract.specs.Contract.{meters_fit, is_agreed, no_cable, keeping};
 

@@ -1,5 +1,6 @@
 // P, the power of a delivery point on its three bases, and the cable formula.
 #![tactic(auto)]
+
 ghost use Rattle.std.specs.Prelude.{◌≡◌, ◌&&◌, ◌≤◌, length};
 ghost use Rattle.numbers.specs.Lists.{all_to};
 ghost use Rattle.power.specs.Power.{formula, cable_fits, formula_in, agreed_fits, current_fits, list_fits, shared_power, power_in, basis_fits, power_on};
@@ -20,6 +21,7 @@ pub struct Cable {
 }
 
 // Whether a cable's numbers are within its limits: the one place where these are tested.
+#[tactic(auto, unfolding(crate::specs::Power::cable_fits))]
 fn numbers_fit(amperes: u64, volts: u64, cosine: u64, phases: u64) -> bool
     ensures { result ≡ cable_fits (record { amperes = amperes; volts = volts; cosine = cosine; phases = phases }) }
 {
@@ -32,6 +34,7 @@ fn numbers_fit(amperes: u64, volts: u64, cosine: u64, phases: u64) -> bool
 }
 
 // The formula within the limits, in which no product is too great.
+#[tactic(auto, unfolding(crate::specs::Power::formula))]
 fn worked(amperes: u64, volts: u64, cosine: u64, phases: u64, hours: u64) -> u64
     requires { CableLimits (record { amperes = amperes; volts = volts; cosine = cosine; phases = phases }) × (hours ≤ 8760) }
     ensures { result ≡ formula (record { amperes = amperes; volts = volts; cosine = cosine; phases = phases }) hours }
@@ -43,6 +46,7 @@ fn worked(amperes: u64, volts: u64, cosine: u64, phases: u64, hours: u64) -> u64
 
 // The kWh that a cable gives in some hours, from plain numbers: the one place where the formula is computed. Numbers
 // outside the limits give 2^64 - 1, so that no caller takes the answer for a volume.
+#[tactic(auto, unfolding(crate::specs::Power::formula_in))]
 pub fn cable_formula(amperes: u64, volts: u64, cosine: u64, phases: u64, hours: u64) -> u64
     ensures { result ≡ formula_in (record { amperes = amperes; volts = volts; cosine = cosine; phases = phases }) hours }
 {
@@ -95,6 +99,7 @@ pub fn cable_power(c: Cable) -> Kw
 }
 
 // Whether an agreed power is within its limits.
+#[tactic(auto, unfolding(crate::specs::Power::agreed_fits))]
 pub fn agreed_fits(p: Kw) -> bool
     ensures { result ≡ agreed_fits p.0 }
 {
@@ -123,6 +128,7 @@ fn currents_fit(currents: &[u32]) -> bool
 }
 
 // Whether a list of currents and a place in it are within their limits, so that a power can be shared by them.
+#[tactic(auto, unfolding(crate::specs::Power::list_fits, crate::specs::Power::current_fits))]
 pub fn list_fits(currents: &[u32], place: usize) -> bool
     ensures { result ≡ list_fits currents.now place }
 {
@@ -132,6 +138,7 @@ pub fn list_fits(currents: &[u32], place: usize) -> bool
 
 // P on basis 2: what one place gets of a power agreed for all points of a list, and 0 where an argument is outside its
 // limits.
+#[tactic(auto, using(crate::proofs::Laws::shared_in))]
 pub fn shared_power(agreed: Kw, currents: &[u32], place: usize) -> Kw
     ensures { result.0 ≡ power_in (agreed_fits agreed.0 && list_fits currents.now place) (shared_power agreed.0 currents.now place) }
 {
@@ -143,6 +150,7 @@ pub fn shared_power(agreed: Kw, currents: &[u32], place: usize) -> Kw
 
 // P on any basis, and 0 where there is no such basis or what it uses is outside its limits. What the basis does not use
 // may be anything.
+#[tactic(auto, unfolding(crate::specs::Power::basis_fits, crate::specs::Power::power_on))]
 pub fn power_of(basis: u32, agreed: Kw, currents: &[u32], place: usize, cable: Cable) -> Kw
     ensures { result.0
         ≡ power_in (basis_fits basis agreed.0 currents.now place cable) (power_on basis agreed.0 currents.now place cable) }

@@ -1,5 +1,6 @@
 // The record of a point (document 01, 'What a point keeps').
 #![tactic(auto)]
+
 ghost use Rattle.std.specs.Prelude.{◌≡◌};
 ghost use Rattle.record.specs.Record.{no_past, zero_record, fresh_record};
 

@@ -6,7 +6,7 @@ use mathlib.Core.List.{List, [], ◌∷◌}
 use native.Mathlib.Omega.{arith}
 use borrow.Author.Tests.{leb-true, le-leb, eqb-true}
 use lib.Dec.{leb, ltb, eqb}
-use Rattle.numbers.specs.Lists.{all_to, at}
+use Rattle.numbers.specs.Lists.{all_to}
 use Rattle.numbers.proofs.Laws.{by_cases, both, or_true}
 use Rattle.calendar.specs.declared.Date.{Date}
 use Rattle.calendar.specs.Calendar.{is_open, month_number, is_month_number}

@@ -1,5 +1,6 @@
 // Number 2: whether a record is one that a point can have. Each function tests one part, in the order of its definition.
 #![tactic(auto)]
+
 ghost use Rattle.std.specs.Prelude.{◌≡◌, ◌+◌, ◌<◌};
 ghost use Rattle.numbers.specs.Lists.{all_to};
 ghost use Rattle.validity.specs.Valid.{all_of, is_no_cable, rest_is_zero, contract_tests, service_tests, year_before, year_fits, latest_in_row};
@@ -13,6 +14,7 @@ use record::{Past, Reading, Readings, Record, Service};
 use units::GREATEST_TOTAL;
 
 // T × 1,000,000, the greatest volume of a reading in the open month.
+#[tactic(auto, unfolding(crate::specs::Valid::volume_limit))]
 pub fn volume_limit(d: Date) -> u64
     ensures { result ≡ volume_limit d }
 {
@@ -122,6 +124,7 @@ fn readings_fit(g: Readings, c: Contract, limit: u64) -> bool
 }
 
 // Whether number 2 does not apply.
+#[tactic(auto, unfolding(crate::specs::Valid::valid, crate::specs::Valid::volume_limit))]
 pub fn is_valid(r: Record) -> bool
     ensures { result ≡ valid r }
 {

@@ -1,7 +1,0 @@
--- `record::fresh_record` meets its contract. Assumes nothing.
-use borrow.Author.Rules.{rules}
-use Rattle.record.proofs.fresh_record.Statement.{statement}
-use Rattle.record.proofs.fresh_record.Tie as tie
-
-pub fresh_record_spec : {M : Type 1} → statement M
-fresh_record_spec = tie.close (tie.spec (λ c κs. search rules) (λ c κs. search rules) (λ c. rw (c.no-readings.ensures, c.before.no-past.ensures)))
