@@ -1,11 +1,13 @@
 // What a chart of the days of a month shows: the sums of its days, the largest of them, and how high a bar is.
 #![tactic(auto)]
+
 ghost use Rattle.std.specs.Prelude.{◌≡◌, cond, ◌+◌, ◌*◌, ◌≤◌, ltb};
 ghost use Rattle.charts.specs.Charts.{hour_of, day_sum, largest_day, reaches_above};
 
 use numbers::{least, word_at};
 
 // An hour of a day, both counted from 0.
+#[tactic(auto, unfolding(crate::specs::Charts::hour_of))]
 pub fn hour_of(hours: &[u32], day: usize, h: usize) -> u64
     ensures { (result ≡ hour_of hours.now day h) × (result ≤ 4294967295) }
 {
@@ -18,6 +20,7 @@ pub fn hour_of(hours: &[u32], day: usize, h: usize) -> u64
 }
 
 // The sum of the hours of a day.
+#[tactic(auto, unfolding(crate::specs::Charts::day_sum))]
 pub fn day_sum(hours: &[u32], day: usize) -> u64
     ensures { result ≡ day_sum hours.now day }
 {
@@ -38,6 +41,7 @@ pub fn larger(a: u64, b: u64) -> u64
 }
 
 // The largest day of a month.
+#[tactic(auto, unfolding(crate::specs::Charts::largest_day))]
 pub fn largest_day(hours: &[u32], days: usize) -> u64
     ensures { result ≡ largest_day hours.now days }
 {
@@ -52,6 +56,7 @@ pub fn largest_day(hours: &[u32], days: usize) -> u64
 
 // Whether a day's bar reaches above a row of the chart, of five rows counted from 0 at the bottom. A day with any volume
 // reaches above row 0. No day has 200,000,000,000 kWh.
+#[tactic(auto, unfolding(crate::specs::Charts::reaches_above))]
 pub fn reaches(sum: u64, most: u64, row: u64) -> bool
     ensures { result ≡ reaches_above sum most row }
 {

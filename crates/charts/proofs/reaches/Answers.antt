@@ -1,0 +1,10 @@
+-- At most 4 times 200,000,000,000 fits 64 bits.
+use Rattle.std.proofs.Common.{◌≤◌, arith}
+use native.Mathlib.Nat.{mul-le-mul}
+use Rattle.charts.proofs.reaches.Goals as goal
+
+pub overflow_mul-result : goal.overflow_mul-result
+overflow_mul-result c =
+    let a : c.least.result ≤ 4 = omega (arith, c.least.ensures) in
+    let b : c.least-2.result ≤ 200000000000 = omega (arith, c.least-2.ensures) in
+    record { fits = omega (arith, mul-le-mul a b) }
