@@ -28,6 +28,7 @@ pub fn is_capacity(mark: u8) -> bool
 }
 
 // Whether no mark is above 3.
+#[tactic(auto, unfolding(numbers::specs::Lists::none_above))]
 pub fn none_high(marks: &[u8]) -> bool
     ensures { result ≡ none_above 3 marks.now }
 {
@@ -79,6 +80,7 @@ fn is_working(day: Day) -> bool
 }
 
 // Day by day, whether 42 and 43 apply, n and d.
+#[tactic(auto, unfolding(crate::specs::Marks::survey_with, crate::specs::Marks::crowded, crate::specs::Marks::unmatched, crate::specs::Marks::working_days))]
 pub fn survey_days(marks: &[u8], high: bool) -> Survey
     ensures { result ≡ survey_with marks.now high }
 {

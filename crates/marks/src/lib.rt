@@ -1,5 +1,6 @@
 // Marks of a month's hours: what number 41, 42 or 43 refuses, the counts n and d, the sum C and capacity.
 #![tactic(auto)]
+
 ghost use Rattle.std.specs.Prelude.{◌≡◌, cond, ◌≤◌};
 ghost use Rattle.numbers.specs.Lists.{at};
 ghost use Rattle.marks.specs.Marks.{capacity_at, survey_of, capacity_sum, capacity_in};
@@ -22,6 +23,7 @@ pub struct Survey {
 }
 
 // Which of 41, 42 and 43 apply, n and d.
+#[tactic(auto, unfolding(crate::specs::Marks::survey_of, crate::specs::Marks::high))]
 pub fn survey_marks(marks: &[u8]) -> Survey
     ensures { result ≡ survey_of marks.now }
 {
@@ -54,6 +56,7 @@ pub fn capacity_sum(marks: &[u8], hours: &[u32]) -> Kwh
 }
 
 // Capacity: C/d rounded half up, 0 if d = 0, and cut to what 32 bits hold, which no month passes.
+#[tactic(auto, using(crate::proofs::Laws::capacity_half_up))]
 pub fn capacity(sum: Kwh, days: u64) -> Kw
     ensures { result.0 ≡ capacity_in sum.0 days }
 {

@@ -10,6 +10,7 @@ use sharing::share_apart;
 use units::{Kw, Kwh, energy};
 
 // n of up to 744 marks, counted in 32 bits, so that the loop takes more marks at a time.
+#[tactic(auto, unfolding(crate::specs::Marks::peak_count))]
 fn count_peaks(marks: &[u8]) -> u32
     requires { length marks.now ≤ 744 }
     ensures { result ≡ peak_count marks.now }
@@ -24,6 +25,7 @@ fn count_peaks(marks: &[u8]) -> u32
 }
 
 // The peak hours of up to 744 marks as flags.
+#[tactic(auto, using(crate::proofs::Flag::flags_none, crate::proofs::Flag::flags_more))]
 fn flag_peaks(marks: &[u8]) -> [bool; 744]
     requires { length marks.now ≤ 744 }
     ensures { Flags marks.now result (length marks.now) }
@@ -47,6 +49,7 @@ pub fn peak_part(volume: Kwh, n: u32, power: Kw) -> Kwh
 
 // The volume shared by the peak rule over the hours of the marks, and 0 in the rest of the buffer. Where the numbers do
 // not fit the answer is false, and the buffer is as it was.
+#[tactic(auto, using(sharing::proofs::Rule::month_long))]
 pub fn peak_rule(volume: Kwh, power: Kw, marks: &[u8], hours: &mut [u32]) -> bool
     ensures { Shared (month_fits volume.0 (length marks.now) (length hours.old))
         (peak_rule volume.0 power.0 marks.now)
