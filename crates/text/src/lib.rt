@@ -1,6 +1,7 @@
 // Text and numbers into a buffer that the caller lends, at a place; the answer is the place behind them. Text for which
 // there is no room is left out whole.
 #![tactic(auto)]
+
 ghost use Rattle.text.specs.Text.{Put, Numbered};
 
 // A text at a place of the buffer. Where it has no room nothing changes, and the place stays.
@@ -10,7 +11,7 @@ pub fn put(out: &mut [u8], place: usize, text: &[u8]) -> usize
     if place <= out.len() {
         if text.len() <= out.len() - place {
             let end = place + text.len();
-            bytes::copy(text, &mut out[place..end]);
+            out[place..end].copy_from_slice(text);
             return end;
         }
     }
