@@ -27,7 +27,7 @@ use Rattle.validity.proofs.Laws.{each_test, valid_parts, valid_from, service_par
 use Rattle.store.specs.Store.{as_row, put_row, store_fits}
 use Rattle.store.proofs.Laws.{length_row, length-put, put-fits-month, put-fits-past, row-part-fits, row-part-fits-month}
 use Rattle.rules.specs.Calls.{closing}
-use Rattle.rules.specs.Rules.{whole, rules, becomes_past}
+use Rattle.rules.specs.Rules.{rules, becomes_past}
 use Rattle.rules.specs.Right.{HoursFit, MeasuredFits, PastHoursFit, InputsFit}
 use Rattle.rules.proofs.Laws.{rules_right}
 use Rattle.model.specs.Refusals.{own_refusal}

@@ -8,7 +8,6 @@ use native.Mathlib.Omega.{arith}
 use borrow.Author.Tests.{eqb-true, eq-eqb, le-leb}
 use lib.Dec.{eqb, lit≤}
 use lib.ListN.{length, length-replicate}
-use Rattle.numbers.specs.Lists.{at}
 use Rattle.numbers.proofs.Laws.{by_cases, both, cond_most}
 use Rattle.calendar.specs.Calendar.{month_number}
 use Rattle.calendar.proofs.Laws.{number_limits, number_next}

@@ -1,5 +1,6 @@
 // What every call answers, and the lists of refusals that several calls share.
 #![tactic(auto)]
+
 ghost use Rattle.std.specs.Prelude.{◌≡◌};
 ghost use Rattle.model.specs.Refusals.{refuse, refuse_anyone, refuse_reading};
 ghost use Rattle.model.specs.Model.{without_figures};
@@ -37,6 +38,7 @@ pub fn answer_with(refusal: u32, after: Record) -> Answer
 }
 
 // The number where the test applies, else the rest: the lowest number that applies is returned.
+#[tactic(auto, unfolding(crate::specs::Refusals::refuse))]
 pub fn refuse_if(test: bool, number: u32, rest: u32) -> u32
     ensures { result ≡ refuse test number rest }
 {
@@ -44,6 +46,7 @@ pub fn refuse_if(test: bool, number: u32, rest: u32) -> u32
 }
 
 // Anyone's numbers, 1 to 3, before what the call itself has to say.
+#[tactic(auto, unfolding(crate::specs::Refusals::refuse_anyone))]
 pub fn refuse_anyone(words: usize, r: Record, rest: u32) -> u32
     ensures { result ≡ refuse_anyone words r rest }
 {
@@ -53,6 +56,7 @@ pub fn refuse_anyone(words: usize, r: Record, rest: u32) -> u32
 }
 
 // The meter readers' numbers, 20 to 24.
+#[tactic(auto, unfolding(crate::specs::Refusals::refuse_reading))]
 pub fn refuse_reading(t20: bool, t21: bool, t22: bool, t23: bool, t24: bool) -> u32
     ensures { result ≡ refuse_reading t20 t21 t22 t23 t24 }
 {
