@@ -1,4 +1,4 @@
--- Every example. Assumes nothing.
+-- Every example, worked out.
 use mathlib.Core.Path.{refl}
 use Rattle.numbers.specs.Rounding.{half_up}
 use Rattle.calendar.specs.Calendar.{leap_year, is_month, month_days, month_number}
@@ -8,8 +8,7 @@ use Rattle.marks.specs.Marks.{peak_count, capacity_of}
 use Rattle.marks.specs.Peak.{peak_part, peak_rule}
 use Rattle.examples.specs.Examples.{Examples}
 use Rattle.examples.proofs.Months.{three_months, past_hour}
-use Rattle.examples.proofs.table.Statement.{statement}
-use Rattle.examples.proofs.table.Tie as tie
+use Rattle.examples.proofs.table.Goals as goal
 
 examples : Examples
 unfolding half_up leap_year is_month month_days month_number portion taken spread shares_over apart_at shares_apart formula shared_power peak_count capacity_of
@@ -31,5 +30,5 @@ examples = record {
   n = past_hour;
 }
 
-pub table_spec : {M : Type 1} → statement M
-table_spec = tie.close (tie.spec (λ c. examples))
+pub returns : goal.returns
+returns c = examples
