@@ -32,6 +32,7 @@ pub(crate) fn as_read(ground: u32, store: &[u32], row: usize, t: usize, hours: &
 }
 
 // Hours 0 to t - 1 of the past, its hour h - 168 where it lacks hour h, into the front of a buffer.
+#[tactic(auto, using(numbers::proofs::Laws::filled_none, numbers::proofs::Laws::filled_end))]
 fn copy_past(past: &[u32], t: usize, hours: &mut [u32])
     requires { t ≤ length hours.old }
     ensures { Filled (past_at past.now) hours.old hours.new t }

@@ -1,6 +1,7 @@
 // The nine grounds of a closing (document 01, 'Closing'), one function a ground. Each puts its hours into the buffer.
 // Which of them a month is closed on is decided where it is closed.
 #![tactic(auto)]
+
 ghost use Rattle.std.specs.Prelude.{◌≡◌, true, ◌*◌, ◌≤◌, length};
 ghost use Rattle.numbers.specs.Lists.{sum};
 ghost use Rattle.units.specs.Volumes.{greatest_volume_read};

@@ -62,6 +62,7 @@ pub fn find_past(r: Record) -> PastMonth
 
 // A volume shared by the past that is the first t hours of a row, over the chosen hours: the part of the store that the past
 // takes is lent to the sharing. Where the numbers do not fit the answer is false, and the buffer is as it was.
+#[tactic(auto, using(store::proofs::Laws::row_fits_lem))]
 pub fn share_by_row(
     volume: Kwh,
     store: &[u32],

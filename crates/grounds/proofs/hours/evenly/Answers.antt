@@ -1,0 +1,8 @@
+-- Every hour of the month is chosen.
+use Rattle.grounds.proofs.Laws.{even_found}
+use Rattle.grounds.proofs.hours.evenly.Goals as goal
+
+pub returns : goal.returns
+returns c =
+    even_found _ c.args.volume.0 c.args.t c.args.hours.now c.requires.0 c.requires.1 c.requires.2 c.requires.3
+    c.share_evenly.ensures
