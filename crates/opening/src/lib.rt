@@ -1,5 +1,6 @@
 // Opening a point, on its three bases.
 #![tactic(auto)]
+
 ghost use Rattle.std.specs.Prelude.{◌≡◌};
 ghost use Rattle.model.specs.Refusals.{open_refusal};
 ghost use Rattle.model.specs.Opening.{Opens};
@@ -12,6 +13,7 @@ use record::{fresh_record, zero_record};
 use store::clear_store;
 
 // The number of an opening: 1 and 10 to 14.
+#[tactic(auto, unfolding(model::specs::Refusals::open_refusal))]
 fn open_refusal(words: usize, asked: Contract, date: Date, currents: &[u32], place: usize) -> u32
     ensures { result ≡ open_refusal words (record { asked = asked; date = date; currents = currents.now; place = place }) }
 {
