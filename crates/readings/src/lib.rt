@@ -1,5 +1,6 @@
 // This month's readings: of the billing meter and the control meter in both forms, and of the neighbour.
 #![tactic(auto)]
+
 ghost use Rattle.std.specs.Prelude.{◌≡◌, false, []};
 ghost use Rattle.rules.specs.Calls.Call.{billing_hours, billing_volume, control_hours, control_volume, neighbour};
 ghost use Rattle.model.specs.Refusals.{refuse_anyone, refuse_reading, is_barred, not_month, hour_above, volume_above, billing_hours_number};
