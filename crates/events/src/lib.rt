@@ -1,5 +1,6 @@
 // What the network firm reports: failures, admissions, denials of access and permissions.
 #![tactic(auto)]
+
 ghost use Rattle.std.specs.Prelude.{◌≡◌, [], ◌≤◌};
 ghost use Rattle.record.specs.Record.{not_given, with_readings, with_billing, with_denials};
 ghost use Rattle.store.specs.Store.{written_in};
