@@ -2,7 +2,7 @@
 use mathlib.Core.Path.{◌≡◌, sym, ◌∙◌}
 use mathlib.Core.Logic.{◌⊎◌, ⊎_elim}
 use mathlib.Core.List.{List, [], ◌++◌}
-use mathlib.Core.Bool.{true, ◌&&◌}
+use mathlib.Core.Bool.{true, cond, ◌&&◌}
 use Prim.Native.Nat.{ℕ, ◌+◌, ◌-◌, ◌*◌, ◌≤◌, ◌<◌}
 use native.Mathlib.Nat.{sub-zero, add-sub_cancel_left}
 use native.Mathlib.Omega.{arith}
@@ -190,6 +190,11 @@ fits_zeros n = fits_from (zeros n) (λ k l. rw at_zeros (omega arith)) (λ k l. 
 
 pub fits_empty : store_fits empty_store ≡ true
 fits_empty = fits_zeros 10416
+
+-- every word of a store of 14 rows made 0
+pub cleared : (store after : List ℕ) → length store ≡ 10416 → after ≡ zeros (length store)
+    → after ≡ cond (eqb (length store) 10416) empty_store store
+cleared store after size e = rw (eq-eqb (length store) 10416 size) (rw size at e)
 
 -- a store that fits still does with hours of this month in row 12 or 13, and with hours of a past in a row before them
 module _ (r : ℕ) (hours store : List ℕ) (size : length store ≡ 10416) (fits : store_fits store ≡ true) (long : length hours ≤ 744) where

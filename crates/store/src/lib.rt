@@ -78,6 +78,7 @@ pub fn clear_row(store: &mut [u32], row: usize)
 }
 
 // Every word becomes 0, as an opening leaves the store; a store that is not 14 rows stays as it was.
+#[tactic(auto, using(crate::proofs::Laws::cleared))]
 pub fn clear_store(store: &mut [u32])
     ensures { store.new ≡ cond (eqb (length store.old) 10416) empty_store store.old }
 {
