@@ -13,14 +13,12 @@ LIBDIR ?= $(PREFIX)/lib
 INSTALL ?= install
 
 version := $(shell cat VERSION)
-sources := $(shell find crates -name must-fail -prune -o -type f -print)
-compiled := target/staticlib/libcapi.a
+sources := $(shell find crates \( -name must-fail -o -name out \) -prune -o -type f -print)
 archive := target/lib/libsallowbingo.a
 program := target/bin/settle
 installed := "$(DESTDIR)$(INCLUDEDIR)/sallowbingo.h" "$(DESTDIR)$(LIBDIR)/libsallowbingo.a" \
     "$(DESTDIR)$(LIBDIR)/pkgconfig/sallowbingo.pc" "$(DESTDIR)$(BINDIR)/settle"
 kit := $(shell command -v rt 2>/dev/null)
-export RT_JOBS ?= $(shell tools/jobs)
 needs_kit = $(if $(kit),,@echo "$@ is built with the Rattle kit, and its command rt is not on the PATH"; exit 2)
 
 .PHONY: all install uninstall check settle play
@@ -28,19 +26,16 @@ needs_kit = $(if $(kit),,@echo "$@ is built with the Rattle kit, and its command
 
 all: $(archive)
 
-# The time is set because rt may leave an archive that did not change as it is.
-$(compiled): $(sources)
+# rt lib leaves the archive among what it keeps of the crate, which rt ci clears.
+$(archive): $(sources)
 	$(needs_kit)
-	tools/tmpdir rt staticlib capi
-	touch $@
-
-$(archive): $(compiled)
+	cd crates/capi && rt lib
 	mkdir -p $(@D)
-	cp $< $@
+	cp crates/capi/out/libcapi.a $@
 
 # An archive that is there is installed as it is, so that an installation needs no kit; an old one is told.
-ifeq ($(wildcard $(compiled)),)
-install: $(compiled)
+ifeq ($(wildcard $(archive)),)
+install: $(archive)
 endif
 install:
 	@for folder in "$(PREFIX)" "$(BINDIR)" "$(INCLUDEDIR)" "$(LIBDIR)"; do case "$$folder" in \
@@ -48,10 +43,10 @@ install:
 	    /*) ;; \
 	    *) echo "a folder is a whole path, from / on: $$folder"; exit 2 ;; \
 	esac; done
-	@$(MAKE) -q $(compiled) || echo "note: the archive is older than a source; make builds it anew"
+	@$(MAKE) -q $(archive) || echo "note: the archive is older than a source; make builds it anew"
 	$(INSTALL) -d "$(DESTDIR)$(INCLUDEDIR)" "$(DESTDIR)$(LIBDIR)/pkgconfig"
 	$(INSTALL) -m 644 include/sallowbingo.h "$(DESTDIR)$(INCLUDEDIR)/sallowbingo.h"
-	$(INSTALL) -m 644 $(compiled) "$(DESTDIR)$(LIBDIR)/libsallowbingo.a"
+	$(INSTALL) -m 644 $(archive) "$(DESTDIR)$(LIBDIR)/libsallowbingo.a"
 	sed -e 's|@PREFIX@|$(PREFIX)|' -e 's|@INCLUDEDIR@|$(INCLUDEDIR)|' -e 's|@LIBDIR@|$(LIBDIR)|' \
 	    -e 's|@VERSION@|$(version)|' sallowbingo.pc.in >"$(DESTDIR)$(LIBDIR)/pkgconfig/sallowbingo.pc"
 	chmod 644 "$(DESTDIR)$(LIBDIR)/pkgconfig/sallowbingo.pc"
@@ -69,11 +64,12 @@ uninstall:
 check:
 	tools/test
 
-# rt check also runs the program on crates/settle/stdin and compares what it prints.
+# The program is proved, built and run on crates/settle/stdin, and has to print what crates/settle/stdout has.
 $(program): $(sources)
 	$(needs_kit)
-	tools/tmpdir rt check settle
-	touch $@
+	mkdir -p $(@D)
+	cd crates/settle && rt run <stdin >../../$@.out && cmp ../../$@.out stdout
+	cp crates/settle/out/settle $@
 
 settle: $(program)
 
