@@ -1,6 +1,7 @@
 // Which ground a month is closed on (document 01, 'Closing'): the first that fits, in the order of its table: 1, 2, 3, 4, 6,
 // 5, 7, 8, 9.
 #![tactic(auto)]
+
 ghost use Rattle.std.specs.Prelude.{◌≡◌, true, ◌-◌, ◌*◌, ◌≤◌, min};
 ghost use Rattle.units.specs.Volumes.{greatest_volume_read};
 ghost use Rattle.power.specs.Power.{cable_fits};
@@ -26,6 +27,7 @@ use record::{Readings, Record, Service};
 use units::{Kw, Kwh};
 
 // R: the run plus 1, and 3 if that is less while denials are 2.
+#[tactic(auto, unfolding(rules::specs::Rules::counted_of))]
 pub fn counted(s: Service) -> u32
     requires { s.run ≤ 12000 }
     ensures { result ≡ counted_of s.run s.denials }
@@ -35,6 +37,7 @@ pub fn counted(s: Service) -> u32
 }
 
 // N: the first neighbour reading if given, else the second, else 0.
+#[tactic(auto, using(crate::proofs::Firsts::neighbour_is))]
 pub fn neighbour_volume(g: Readings) -> Kwh
     ensures { result.0 ≡ neighbour_of (stated_in g.first) (stated_in g.second) }
 {
@@ -53,6 +56,7 @@ pub fn less(volume: Kwh, neighbour: Kwh) -> Kwh
 }
 
 // P of the contract.
+#[tactic(auto, using(crate::proofs::Firsts::cable_power_is, crate::proofs::Firsts::agreed_power_is))]
 pub fn point_power(c: Contract) -> Kw
     requires { c.basis ≡ 3 → cable_fits c.cable ≡ true }
     ensures { result.0 ≡ power_of c }
