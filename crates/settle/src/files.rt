@@ -1,10 +1,10 @@
 // What is written of the files of a command, and when.
 use super::options::Options;
-use libc::STDOUT_FILENO;
 use line_player::{Progress, one_more};
 use record::zero_record;
 use sheets::answers::{Counts, put_bad_line};
 use sheets::records::put_record;
+use std::io;
 use text::put;
 
 // Nothing is played.
@@ -26,18 +26,18 @@ pub fn fresh_progress() -> Progress {
 }
 
 // Writes out what stands in the buffer where it is half full, or where all of it is due.
-pub fn flush(p: Progress, out: &[u8], all: bool) -> Progress {
+pub fn flush(rt: &impl Print, p: Progress, out: &[u8], all: bool) -> io::Result<Progress> {
     let due = all | (32768 < p.at);
     if !due {
-        return p;
+        return Ok(p);
     }
     let n = p.at;
     if n <= out.len() {
-        io::write_all(STDOUT_FILENO, &out[..n]);
+        rt.write_all(&out[..n])?;
     }
     let mut r = p;
     r.at = 0;
-    r
+    Ok(r)
 }
 
 // A file begins: its history has no point open, and its lines are counted anew. Its name stands above its answers where

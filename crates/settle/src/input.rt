@@ -4,7 +4,9 @@ ghost use Rattle.std.specs.Prelude.{◌≡◌, ◌+◌, min};
 use super::files::flush;
 use line_player::{Layout, Progress, bad_line, one_more, play_line};
 use line_reader::errors;
-use text::put;
+use std::io;
+use std::io::Read;
+use text::{find, put};
 
 // Adds bytes to a line; one with too many is too long as a whole.
 fn add_bytes(bytes: &[u8], p: Progress, line: &mut [u8]) -> Progress {
@@ -38,17 +40,25 @@ fn play_whole(
 }
 
 // The line is whole: it is played, and the next begins.
-fn end_line(o: Layout, p: Progress, line: &[u8], store: &mut [u32], out: &mut [u8]) -> Progress {
+fn end_line(
+    rt: &impl Print,
+    o: Layout,
+    p: Progress,
+    line: &[u8],
+    store: &mut [u32],
+    out: &mut [u8],
+) -> io::Result<Progress> {
     let mut next = p;
     next.line = one_more(p.line);
     next.length = 0;
     next.long = false;
     let played = play_whole(p.length, p.long, o, next, line, store, out);
-    flush(played, out, false)
+    flush(rt, played, out, false)
 }
 
 // Bytes of a line, and its end where they have one behind them.
 fn play_part(
+    rt: &impl Print,
     bytes: &[u8],
     ends: bool,
     o: Layout,
@@ -56,12 +66,12 @@ fn play_part(
     line: &mut [u8],
     store: &mut [u32],
     out: &mut [u8],
-) -> Progress {
+) -> io::Result<Progress> {
     let more = add_bytes(bytes, p, line);
     if ends {
-        return end_line(o, more, line, store, out);
+        return end_line(rt, o, more, line, store, out);
     }
-    more
+    Ok(more)
 }
 
 // The place behind a line feed, or the end.
@@ -73,22 +83,23 @@ fn behind(end: usize, size: usize) -> usize
 
 // Plays the lines that end in a part of a file, and keeps what is left of it.
 fn play_bytes(
+    rt: &impl Print,
     bytes: &[u8],
     o: Layout,
     start: Progress,
     line: &mut [u8],
     store: &mut [u32],
     out: &mut [u8],
-) -> Progress {
+) -> io::Result<Progress> {
     let mut p = start;
     let mut from = 0;
     while from < bytes.len() {
-        let end = bytes::scan::find(bytes, from, bytes.len(), 10);
+        let end = find(bytes, from, b'\n');
         let ends = end < bytes.len();
-        p = play_part(&bytes[from..end], ends, o, p, line, store, out);
+        p = play_part(rt, &bytes[from..end], ends, o, p, line, store, out)?;
         from = behind(end, bytes.len());
     }
-    p
+    Ok(p)
 }
 
 // What one read of a file gave: nothing is left, it cannot be read, or some bytes were played.
@@ -100,62 +111,67 @@ pub struct Step {
 }
 
 // Reads once, plays what came and writes the answers, so that a line that is typed is answered at once.
-fn play_some(
-    fd: i32,
+fn play_some<R: Read>(
+    rt: &impl Print,
+    file: &mut R,
     o: Layout,
     p: Progress,
     line: &mut [u8],
     store: &mut [u32],
     out: &mut [u8],
-) -> Step {
-    let mut chunk = io::large_buffer();
-    let got = libc::read(fd, &mut chunk);
-    let n = io::count(got, &chunk);
-    let played = play_bytes(&chunk[..n], o, p, line, store, out);
-    let next = flush(played, out, true);
-    Step {
+) -> io::Result<Step> {
+    let mut chunk = [0u8; 65536];
+    let Ok(n) = file.read(&mut chunk) else {
+        return Ok(Step {
+            more: false,
+            failed: true,
+            progress: flush(rt, p, out, true)?,
+        });
+    };
+    let played = play_bytes(rt, &chunk[..n], o, p, line, store, out)?;
+    let next = flush(rt, played, out, true)?;
+    Ok(Step {
         more: 0 < n,
-        failed: got < 0,
+        failed: false,
         progress: next,
-    }
+    })
 }
 
-// Plays a file that is open, to its end. Nothing says that a file ends, so the turns are counted down from a number that no
-// file uses up.
-pub fn play_input(
-    fd: i32,
+// Plays a file that is open, to its end. Nothing says that a file ends, so it is read at most as often as no file needs.
+pub fn play_input<R: Read>(
+    rt: &impl Print,
+    file: &mut R,
     o: Layout,
     start: Progress,
     line: &mut [u8],
     store: &mut [u32],
     out: &mut [u8],
-) -> Step {
+) -> io::Result<Step> {
     let mut s = Step {
         more: true,
         failed: false,
         progress: start,
     };
-    let mut turns = u64::MAX;
-    while turns > 0 {
-        s = play_some(fd, o, s.progress, line, store, out);
+    for _ in 0..u64::MAX {
+        s = play_some(rt, file, o, s.progress, line, store, out)?;
         if !s.more {
-            return s;
+            return Ok(s);
         }
-        turns -= 1;
     }
-    s
+    Ok(s)
 }
 
 // The last line of a file, where no line feed ends it.
 pub fn end_input(
+    rt: &impl Print,
     o: Layout,
     p: Progress,
     line: &[u8],
     store: &mut [u32],
     out: &mut [u8],
-) -> Progress {
+) -> io::Result<Progress> {
     if (0 < p.length) | p.long {
-        return end_line(o, p, line, store, out);
+        return end_line(rt, o, p, line, store, out);
     }
-    p
+    Ok(p)
 }

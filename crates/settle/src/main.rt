@@ -1,5 +1,6 @@
 // settle plays histories that are written as text (docs/HISTORY-FILE.md) and prints what each call answers.
 #![tactic(auto)]
+
 ghost use Rattle.std.specs.Prelude.{◌≡◌, length};
 
 mod files;
@@ -8,10 +9,13 @@ mod options;
 
 use files::{flush, fresh_progress, no_file, start_file};
 use input::{Step, end_input, play_input};
-use libc::STDIN_FILENO;
 use line_player::{Layout, Progress};
-use options::{Options, find_options, is_option, print_help};
+use options::{Options, argument, find_options, is_option, print_help};
 use sheets::answers::put_end;
+use std::env::Env;
+use std::fs::Files;
+use std::io::{Input, Read};
+use std::{fs, io, str};
 
 // Room for the bytes of a line.
 fn line_room() -> [u8; 16384]
@@ -28,91 +32,141 @@ fn empty_store() -> [u32; 10416]
 }
 
 // Plays a file that is open, as a history of its own.
-fn play_lines(fd: i32, o: Layout, p: Progress, out: &mut [u8]) -> Step {
+fn play_lines<R: Read>(
+    rt: &impl Print,
+    file: &mut R,
+    o: Layout,
+    p: Progress,
+    out: &mut [u8],
+) -> io::Result<Step> {
     let mut line = line_room();
     let mut store = empty_store();
-    let s = play_input(fd, o, p, &mut line, &mut store, out);
-    let last = end_input(o, s.progress, &line, &mut store, out);
-    Step {
+    let s = play_input(rt, file, o, p, &mut line, &mut store, out)?;
+    let last = end_input(rt, o, s.progress, &line, &mut store, out)?;
+    Ok(Step {
         more: false,
         failed: s.failed,
         progress: last,
-    }
+    })
 }
 
 // The same, where what cannot be read is an error without a line.
-fn play_open(name: &[u8], fd: i32, o: Options, p: Progress, out: &mut [u8]) -> Progress {
-    let s = play_lines(fd, o.layout, p, out);
+fn play_open<R: Read>(
+    rt: &impl Print,
+    name: &[u8],
+    file: &mut R,
+    o: Options,
+    p: Progress,
+    out: &mut [u8],
+) -> io::Result<Progress> {
+    let s = play_lines(rt, file, o.layout, p, out)?;
     if s.failed {
-        return no_file(name, o, s.progress, out);
+        return Ok(no_file(name, o, s.progress, out));
     }
-    s.progress
+    Ok(s.progress)
+}
+
+// Opens the file of a name, where it can be read. A name that is no UTF-8 text opens nothing.
+fn open_name<R: Files>(rt: &R, name: &[u8]) -> Option<R::File> {
+    match str::from_utf8(name) {
+        Ok(text) => fs::open(rt, text).ok(),
+        Err(_) => None,
+    }
 }
 
 // Plays the file of a name, or standard input for the name -.
-fn play_name(name: &[u8], o: Options, p: Progress, out: &mut [u8]) -> Progress {
+fn play_name(
+    rt: &(impl Files + Input + Print),
+    name: &[u8],
+    o: Options,
+    p: Progress,
+    out: &mut [u8],
+) -> io::Result<Progress> {
     let start = start_file(name, o, p, out);
     if name.len() == 1 {
-        if name[0] == 45 {
-            return play_open(name, STDIN_FILENO, o, start, out);
+        if name[0] == b'-' {
+            return play_open(rt, name, &mut rt.reader(), o, start, out);
         }
     }
-    let fd = os::open_read(name);
-    if fd < 0 {
-        return no_file(name, o, start, out);
+    match open_name(rt, name) {
+        Some(mut file) => play_open(rt, name, &mut file, o, start, out),
+        None => Ok(no_file(name, o, start, out)),
     }
-    let end = play_open(name, fd, o, start, out);
-    libc::close(fd);
-    end
 }
 
-// Plays argument i of the command where it is a file.
-fn play_argument(i: usize, o: Options, p: Progress, out: &mut [u8]) -> Progress {
-    let mut name = io::buffer();
-    let n = os::arg(i, &mut name);
+// Plays argument i of the command where it is a file; none behind the last.
+fn play_argument(
+    rt: &(impl Env + Files + Input + Print),
+    i: usize,
+    o: Options,
+    p: Progress,
+    out: &mut [u8],
+) -> io::Result<Option<Progress>> {
+    let mut name = [0u8; 4096];
+    let Some(n) = argument(rt, i, &mut name) else {
+        return Ok(None);
+    };
     if is_option(&name[..n]) {
-        return p;
+        return Ok(Some(p));
     }
-    let end = play_name(&name[..n], o, p, out);
-    flush(end, out, false)
+    let end = play_name(rt, &name[..n], o, p, out)?;
+    Ok(Some(flush(rt, end, out, false)?))
 }
 
 // Plays the files of the command, one after the other.
-fn play_files(o: Options, start: Progress, out: &mut [u8]) -> Progress {
-    let n = os::arg_count();
+fn play_files(
+    rt: &(impl Env + Files + Input + Print),
+    o: Options,
+    start: Progress,
+    out: &mut [u8],
+) -> io::Result<Progress> {
     let mut p = start;
-    let mut i = 1;
-    while i < n {
-        p = play_argument(i, o, p, out);
-        i += 1;
+    for i in 1..usize::MAX {
+        let Some(next) = play_argument(rt, i, o, p, out)? else {
+            return Ok(p);
+        };
+        p = next;
     }
-    p
+    Ok(p)
 }
 
 // Plays what the command names: its files, or standard input.
-fn play_all(o: Options, out: &mut [u8]) -> Progress {
+fn play_all(
+    rt: &(impl Env + Files + Input + Print),
+    o: Options,
+    out: &mut [u8],
+) -> io::Result<Progress> {
     let start = fresh_progress();
     if o.files == 0 {
-        return play_name(b"-", o, start, out);
+        return play_name(rt, b"-", o, start, out);
     }
-    play_files(o, start, out)
+    play_files(rt, o, start, out)
 }
 
 // Sums up, and writes what is left.
-fn play(o: Options, out: &mut [u8]) {
-    let p = play_all(o, out);
+fn play(rt: &(impl Env + Files + Input + Print), o: Options, out: &mut [u8]) -> io::Result<()> {
+    let p = play_all(rt, o, out)?;
     let at = put_end(out, p.at, o.layout.tab, p.counts);
     let mut end = p;
     end.at = at;
-    flush(end, out, true);
+    flush(rt, end, out, true)?;
+    Ok(())
 }
 
-fn main() {
-    let o = find_options();
+// Plays what the command names, or prints what it can be asked.
+fn run(rt: &(impl Env + Files + Input + Print)) -> io::Result<()> {
+    let o = find_options(rt);
     if o.help {
-        print_help(o);
-        return;
+        return print_help(rt, o);
     }
-    let mut out = io::large_buffer();
-    play(o, &mut out);
+    let mut out = [0u8; 65536];
+    play(rt, o, &mut out)
+}
+
+// Whoever reads the answers may close them, as `head` does, and the command ends there.
+fn main(rt: HostRuntime) -> io::Result<()> {
+    match run(&rt) {
+        Err(e) if e.kind() == io::ErrorKind::BrokenPipe => Ok(()),
+        ended => ended,
+    }
 }

@@ -1,6 +1,9 @@
 // The options of the command.
-use libc::STDOUT_FILENO;
+ghost use Rattle.std.specs.Prelude.{◌≡◌, ◌≤◌, ◌↔◌, length, IfSome, IsTrue};
+
 use line_player::Layout;
+use std::env::{Env, FillError};
+use std::io;
 
 // Whether help is printed, which argument is an option that is not known, 0 for none, how the answers are written, and how
 // many files there are.
@@ -13,20 +16,22 @@ pub struct Options {
 }
 
 // Whether two texts are the same.
-fn same(a: &[u8], b: &[u8]) -> bool {
-    if a.len() != b.len() {
-        return false;
+fn same(a: &[u8], b: &[u8]) -> bool
+    ensures { IsTrue result ↔ (a.now ≡ b.now) }
+{
+    a == b
+}
+
+// Puts argument i of the command at the start of a buffer, and says how long it is; none behind the last. One that the
+// buffer cannot hold is empty.
+pub fn argument(rt: &impl Env, i: usize, word: &mut [u8]) -> Option<usize>
+    ensures { IfSome result (λ n. n ≤ length word.new) }
+{
+    match rt.arg(i, word) {
+        Ok(n) => Some(n),
+        Err(FillError::TooLong) => Some(0),
+        Err(FillError::NotPresent) => None,
     }
-    let mut k = 0;
-    while k < b.len() {
-        if k < a.len() {
-            if a[k] != b[k] {
-                return false;
-            }
-        }
-        k += 1;
-    }
-    true
 }
 
 // Whether an argument is an option: it starts with a dash.
@@ -61,15 +66,15 @@ fn with_argument(o: Options, word: &[u8], i: usize) -> Options {
     r
 }
 
-// The options with argument i of the command.
-fn with_place(o: Options, i: usize) -> Options {
-    let mut word = io::buffer();
-    let n = os::arg(i, &mut word);
-    with_argument(o, &word[..n], i)
+// The options with argument i of the command, or none behind the last.
+fn with_place(rt: &impl Env, o: Options, i: usize) -> Option<Options> {
+    let mut word = [0u8; 4096];
+    let n = argument(rt, i, &mut word)?;
+    Some(with_argument(o, &word[..n], i))
 }
 
 // The options of the command, wherever they stand.
-pub fn find_options() -> Options {
+pub fn find_options(rt: &impl Env) -> Options {
     let layout = Layout {
         tab: false,
         table: false,
@@ -80,31 +85,30 @@ pub fn find_options() -> Options {
         layout: layout,
         files: 0,
     };
-    let n = os::arg_count();
-    let mut i = 1;
-    while i < n {
-        o = with_place(o, i);
-        i += 1;
+    for i in 1..usize::MAX {
+        let Some(more) = with_place(rt, o, i) else {
+            return o;
+        };
+        o = more;
     }
     o
 }
 
 // Which option is not known.
-fn print_unknown(i: usize) {
-    let mut word = io::buffer();
-    let n = os::arg(i, &mut word);
-    io::write_all(STDOUT_FILENO, b"unknown option: ");
-    io::write_all(STDOUT_FILENO, &word[..n]);
-    io::write_all(STDOUT_FILENO, b"\n\n");
+fn print_unknown(rt: &(impl Env + Print), i: usize) -> io::Result<()> {
+    let mut word = [0u8; 4096];
+    let n = argument(rt, i, &mut word).unwrap_or(0);
+    rt.write_all(b"unknown option: ")?;
+    rt.write_all(&word[..n])?;
+    rt.write_all(b"\n\n")
 }
 
 // What the command can be asked.
-pub fn print_help(o: Options) {
+pub fn print_help(rt: &(impl Env + Print), o: Options) -> io::Result<()> {
     if o.unknown != 0 {
-        print_unknown(o.unknown);
+        print_unknown(rt, o.unknown)?;
     }
-    io::write_all(
-        STDOUT_FILENO,
+    rt.write_all(
         b"settle [--hours] [--tab] [FILE ..]\n\n\
         Plays histories of a delivery point, one call a line, and prints what each call answers: accepted,\n\
         or refused with its number; for each closed month a sheet that says how its volume was found.\n\
@@ -117,5 +121,5 @@ pub fn print_help(o: Options) {
         billing hours 31*(8*20 12*60 4*20)\n    \
         close week (8*0 3 11*1 4*0) (24*0)\n\n\
         docs/HISTORY-FILE.md has the grammar, samples/ a history for each lesson.\n",
-    );
+    )
 }

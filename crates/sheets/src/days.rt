@@ -1,7 +1,7 @@
 // The hours of a month as a chart of its days and as a table.
 use super::forms::put_form;
 use charts::{day_sum, hour_of, larger, largest_day, reaches};
-use numbers::{pick, word_at};
+use numbers::{pick, wide};
 use text::{put, put_right};
 
 // A mark of the chart.
@@ -15,10 +15,8 @@ fn put_bar(out: &mut [u8], at: usize, full: bool) -> usize {
 // A row of the chart, from its frame on.
 fn put_row(out: &mut [u8], place: usize, hours: &[u32], days: usize, most: u64, row: u64) -> usize {
     let mut at = put(out, place, b"              |");
-    let mut day = 0;
-    while day < days {
+    for day in 0..days {
         at = put_bar(out, at, reaches(day_sum(hours, day), most, row));
-        day += 1;
     }
     put(out, at, b"\n")
 }
@@ -51,10 +49,8 @@ fn digits_of(n: u64) -> usize {
 // The largest hour of a month.
 fn largest_hour(hours: &[u32]) -> u64 {
     let mut most = 0;
-    let mut k = 0;
-    while k < hours.len() {
-        most = larger(most, word_at(hours, k));
-        k += 1;
+    for hour in hours {
+        most = larger(most, wide(*hour));
     }
     most
 }
@@ -69,10 +65,8 @@ fn put_cell(out: &mut [u8], at: usize, n: u64, width: usize) -> usize {
 fn put_day(out: &mut [u8], place: usize, hours: &[u32], day: usize, width: usize) -> usize {
     let mut at = put(out, place, b"    day ");
     at = put_right(out, at, day_number(day), 2);
-    let mut h = 0;
-    while h < 24 {
+    for h in 0..24 {
         at = put_cell(out, at, hour_of(hours, day, h), width);
-        h += 1;
     }
     put(out, at, b"\n")
 }
@@ -86,10 +80,8 @@ fn day_number(day: usize) -> u64 {
 pub fn put_table(out: &mut [u8], place: usize, hours: &[u32], days: usize) -> usize {
     let width = digits_of(largest_hour(hours));
     let mut at = place;
-    let mut day = 0;
-    while day < days {
+    for day in 0..days {
         at = put_day(out, at, hours, day, width);
-        day += 1;
     }
     at
 }

@@ -5,10 +5,8 @@ use text::{put, put_number};
 // A word and the numbers of a record.
 pub fn put_record(out: &mut [u8], place: usize, word: &[u8], numbers: &[u64]) -> usize {
     let mut at = put(out, place, word);
-    let mut k = 0;
-    while k < numbers.len() {
-        at = put_field(out, at, numbers[k]);
-        k += 1;
+    for n in numbers {
+        at = put_field(out, at, *n);
     }
     put(out, at, b"\n")
 }
@@ -23,10 +21,8 @@ pub fn put_field(out: &mut [u8], place: usize, n: u64) -> usize {
 pub fn put_hours(out: &mut [u8], place: usize, line: u64, hours: &[u32], t: usize) -> usize {
     let at = put(out, place, b"hours");
     let mut at = put_field(out, at, line);
-    let mut k = 0;
-    while k < t {
+    for k in 0..t {
         at = put_field(out, at, word_at(hours, k));
-        k += 1;
     }
     put(out, at, b"\n")
 }
