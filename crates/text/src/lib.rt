@@ -2,6 +2,8 @@
 // there is no room is left out whole.
 #![tactic(auto)]
 
+ghost use Rattle.std.specs.Prelude.{◌≡◌, ◌==◌, ◌+◌, ◌≤◌, drop, length};
+ghost use Rattle.std.specs.List.{position, position_or_len};
 ghost use Rattle.text.specs.Text.{Put, Numbered};
 
 // A text at a place of the buffer. Where it has no room nothing changes, and the place stays.
@@ -47,4 +49,31 @@ pub fn put_right(out: &mut [u8], place: usize, n: u64, width: usize) -> usize {
         return put(out, behind, &text[..k]);
     }
     put(out, place, &text[..k])
+}
+
+// Where a byte stands first in a text, if it does.
+fn first(text: &[u8], byte: u8) -> Option<usize>
+    ensures { result ≡ position (λ b. b == byte) text.now }
+{
+    text.iter().position(|b| *b == byte)
+}
+
+// How many bytes of a text stand before the first of a value, all of them where it has none.
+fn before(text: &[u8], byte: u8) -> usize
+    ensures value { result ≡ position_or_len (λ b. b == byte) text.now }
+    ensures end { result ≤ length text.now }
+{
+    match first(text, byte) {
+        Some(k) => k,
+        None => text.len(),
+    }
+}
+
+// Where a byte stands first in a text, from a place on; where it does not, the text's end.
+pub fn find(text: &[u8], from: usize, byte: u8) -> usize
+    requires { from ≤ length text.now }
+    ensures value { result ≡ from + position_or_len (λ b. b == byte) (drop from text.now) }
+    ensures end { result ≤ length text.now }
+{
+    from + before(&text[from..], byte)
 }
