@@ -13,7 +13,8 @@ import re
 HEAD = re.compile(r"(?:(?:pub|unfoldable|abbrev|mutual)\s+)*([^\s:(){},;]+)\s*(?:\(|\{|:)")
 TYPE = re.compile(r"(?:(?:pub|unfoldable|abbrev)\s+)*(record|data)\s+(\S+)")
 PART = re.compile(r"\s+(?:pub\s+)?([^\s:(){},;]+(?: [^\s:(){},;]+)*)\s*:")
-OTHER = ("use", "--", "ghost", "open", "module", "ruleset")
+OTHER = ("use ", "--", "open ", "module ", "ruleset ")
+INNER = re.compile(r"\s+(?:(?:pub|unfoldable|abbrev)\s+)*([^\s:(){},;]+)\s*:\s")
 
 
 def antt():
@@ -24,8 +25,19 @@ def found():
     """The names that the repository's antt declares: those of definitions and lemmas, and those of fields and constructors."""
     names, parts = set(), set()
     for path in antt():
-        inside = False
+        if path.endswith(("/Answers.antt", "/Invariants.antt")):
+            # their names are Rattle's
+            continue
+        inside, section = False, False
         for line in open(path, encoding="utf-8"):
+            if line.startswith("module "):
+                section = True
+            elif line[:1].strip() and not line.startswith("--"):
+                section = False
+            head = INNER.match(line) if section and not inside else None
+            if head:
+                names.add(head[1])
+                continue
             head = TYPE.match(line)
             if head:
                 names.add(head[2])

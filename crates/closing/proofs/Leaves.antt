@@ -16,7 +16,7 @@ use Rattle.marks.specs.Marks.{survey_with, survey_of, capacity_sum, capacity_in}
 use Rattle.marks.proofs.Laws.{capacity_uncut}
 use Rattle.record.specs.declared.Record.{Record}
 use Rattle.store.specs.Store.{as_row, with_hours, written_in, store_fits}
-use Rattle.store.proofs.Laws.{length_row, length-put, written_in_lem}
+use Rattle.store.proofs.Laws.{length_row, length_put, written_in_lem}
 use Rattle.rules.specs.declared.Figures.{Figures}
 use Rattle.rules.specs.Calls.{Call, closing}
 use Rattle.rules.specs.Rules.{Outcome, days_in, rules, becomes_past, figures}
@@ -64,7 +64,7 @@ row_again hs l =
 kept_length : (new : Bool) (row : ℕ) (hours store : List ℕ) → length store ≡ 10416 → row ≤ 11 → length hours ≡ 744
     → length (cond new (with_hours row hours store) store) ≡ 10416
 kept_length true row hours store words few long =
-    length-put row (as_row hours) store words (omega arith) (length_row hours (omega arith))
+    length_put row (as_row hours) store words (omega arith) (length_row hours (omega arith))
 kept_length false row hours store words few long = words
 
 -- the store that the code leaves
@@ -74,7 +74,7 @@ pub store_is : (new : Bool) (m : Date) (hours store : List ℕ) {a b d : List �
 store_is new m hours store {a} {b} words month long e f g =
     let la : length a ≡ 10416 = rw e (kept_length new (m.month - 1) hours store words (row_few m month) long) in
     let fb = f ∙ written_in_lem 12 [] a (lit≤ tt) (lit≤ tt) la in
-    let lb : length b ≡ 10416 = rw fb (length-put 12 (as_row []) a la (lit≤ tt) (length_row [] (lit≤ tt))) in
+    let lb : length b ≡ 10416 = rw fb (length_put 12 (as_row []) a la (lit≤ tt) (length_row [] (lit≤ tt))) in
     g ∙ written_in_lem 13 [] b (lit≤ tt) (lit≤ tt) lb ∙ rw (fb, e)
 
 -- what is left in parts is what the model leaves

@@ -34,9 +34,9 @@ module _ (o : Opening) (before : List ℕ) (first : Answer) (after : List ℕ) (
   not_taken n = ne_eqb (open_refusal (length before) o) 0 (λ e. n (number ∙ e))
 
   -- what it leaves where it is accepted
-  state-opened : first.refusal ≡ 0 → state first.after after ≡ opened o
+  state_opened : first.refusal ≡ 0 → state first.after after ≡ opened o
   unfolding open_answer open_leaves
-  state-opened e =
+  state_opened e =
       let point : first.after ≡ (opened o).point = ap (λ (x : Answer). x.after) does.answered ∙ rw (taken e) in
       let store : after ≡ (opened o).store = does.left ∙ rw (taken e) in
       λ i. state (point i) (store i)
@@ -71,6 +71,6 @@ opened_and_closed o before after marks buffer first {a} {store} {hours} opening 
     record {
       refused = λ f. absurd (true≢false (sym yes ∙ f));
       untouched = λ f. absurd (true≢false (sym yes ∙ f));
-      closed = λ t. subst (λ (s : State). Does s (closing marks buffer) a store hours) (state-opened o before first after opening e) does;
+      closed = λ t. subst (λ (s : State). Does s (closing marks buffer) a store hours) (state_opened o before first after opening e) does;
       total = λ t. one_month o before after marks buffer first a store hours opening e does;
     }

@@ -20,7 +20,7 @@ use Rattle.power.specs.declared.Cable.{Cable}
 use Rattle.power.specs.Power.{formula_in, cable_fits}
 use Rattle.power.proofs.Laws.{formula_most, formula_in_lem}
 use Rattle.store.specs.Store.{as_row, read_from, store_fits}
-use Rattle.store.proofs.Laws.{at_row, read_from_lem, row-part-fits}
+use Rattle.store.proofs.Laws.{at_row, read_from_lem, row_part_fits}
 use Rattle.grounds.specs.Found.{HoursFound, BuffersFit}
 
 -- the hours of a row, summed
@@ -82,7 +82,7 @@ weights_small : (store : List ℕ) (r past t : ℕ) (chosen : ℕ → Bool) → 
 unfolding weights_fit
 weights_small store r past t chosen fits few =
     let part = row_part store r past in
-    let each = none_above_at 3000000 part (row-part-fits r past store fits) in
+    let each = none_above_at 3000000 part (row_part_fits r past store fits) in
     let most =
     sum_most (within chosen (past_at part)) 3000000 t
     (λ h l. cond_most (chosen h) (cond_most (ltb h (length part)) (each h) (each (h - 168))) (omega arith)) in

@@ -28,9 +28,9 @@ use Rattle.model.proofs.GoesOn.{call_sound}
 use Rattle.history.specs.Book.{Book, month_of, denials_of, run_of, volumes, inputs_of}
 use Rattle.history.proofs.Rows.{Holds, replaced_at, holds_same, holds_put, set_tab}
 use Rattle.history.proofs.View.{serving_of, fault_of, latest_of, year_in, contents, point_of, seen, look_backs, OfItsMeter, MonthsClosed, Shows, as_seen}
-use Rattle.history.proofs.Inputs.{inputs-same}
-use Rattle.history.proofs.Steps.{entry, step-billing-hours, step-control-hours, step-billing-volume, step-control-volume, step-neighbour}
-use Rattle.history.proofs.Steps.{step-failure, step-admission, step-denial, step-permission}
+use Rattle.history.proofs.Inputs.{inputs_same}
+use Rattle.history.proofs.Steps.{entry, step_billing_hours, step_control_hours, step_billing_volume, step_control_volume, step_neighbour}
+use Rattle.history.proofs.Steps.{step_failure, step_admission, step_denial, step_permission}
 
 module _ (o : Opening) (es : Book) (store : List ℕ) (h : Shows o es (seen o es store)) where
   module _ (marks buffer : List ℕ) (t : accepted (seen o es store) (closing marks buffer) ≡ true) where
@@ -39,20 +39,20 @@ module _ (o : Opening) (es : Book) (store : List ℕ) (h : Shows o es (seen o es
     month = open_month (point_of o es) h.sound.fits.record_fits (call_passed (seen o es store) (closing marks buffer) t).not_over
 
     -- what the book works out is right
-    pub work-right : Right (open_hours (month_of o es)) (rules (inputs_of o es marks))
+    pub work_right : Right (open_hours (month_of o es)) (rules (inputs_of o es marks))
     unfolding inputs_of
-    work-right = rw (inputs-same o es store h marks) at (rules_right (inputs (seen o es store) marks) (inputs_fit (seen o es store) marks buffer t))
+    work_right = rw (inputs_same o es store h marks) at (rules_right (inputs (seen o es store) marks) (inputs_fit (seen o es store) marks buffer t))
 
     -- the run, the rows' years and the total
-    run-after : run_after (becomes_past (rules (inputs_of o es marks))) (run_of o es) ≡ run_of o (entry o es (closing marks buffer) ∷ es)
+    run_after_lem : run_after (becomes_past (rules (inputs_of o es marks))) (run_of o es) ≡ run_of o (entry o es (closing marks buffer) ∷ es)
     unfolding look_backs
-    run-after = by_cases (becomes_past (rules (inputs_of o es marks))) (λ y. rw y) (λ f. rw (f, add-one))
+    run_after_lem = by_cases (becomes_past (rules (inputs_of o es marks))) (λ y. rw y) (λ f. rw (f, add-one))
 
-    years-after : cond (becomes_past (rules (inputs_of o es marks))) (set (tab 12 (year_in o es)) (row_of (month_of o es)) (month_of o es).year)
+    years_after : cond (becomes_past (rules (inputs_of o es marks))) (set (tab 12 (year_in o es)) (row_of (month_of o es)) (month_of o es).year)
         (tab 12 (year_in o es))
         ≡ tab 12 (year_in o (entry o es (closing marks buffer) ∷ es))
     unfolding look_backs
-    years-after =
+    years_after =
         let d : Date = month_of o es in
         by_cases (becomes_past (rules (inputs_of o es marks)))
         (λ y. rw y
@@ -60,32 +60,32 @@ module _ (o : Opening) (es : Book) (store : List ℕ) (h : Shows o es (seen o es
         ∙ tab_same 12 (replaced_at (year_in o es) (row_of d) d.year) (λ r. cond (true && eqb r (row_of d)) d.year (year_in o es r)) (λ r l. refl)))
         (λ f. rw f)
 
-    total-after : volumes es + (rules (inputs_of o es marks)).volume ≡ volumes (entry o es (closing marks buffer) ∷ es)
+    total_after : volumes es + (rules (inputs_of o es marks)).volume ≡ volumes (entry o es (closing marks buffer) ∷ es)
     unfolding look_backs
-    total-after = add_comm (volumes es) (rules (inputs_of o es marks)).volume
+    total_after = add_comm (volumes es) (rules (inputs_of o es marks)).volume
 
-    point-after : (closed_with (rules (inputs_of o es marks)) (seen o es store)).point ≡ point_of o (entry o es (closing marks buffer) ∷ es)
+    point_after_lem : (closed_with (rules (inputs_of o es marks)) (seen o es store)).point ≡ point_of o (entry o es (closing marks buffer) ∷ es)
     unfolding closed_with point_of look_backs
-    point-after =
+    point_after_lem =
         λ i.
         record {
           opened = 1;
           contract = kept o.asked o.currents o.place;
           date = next_month (month_of o es);
-          service = record { run = run-after i; serving = serving_of es; denials = denials_of es; fault = fault_of o es };
-          past = record { years = years-after i; latest = latest_of o (entry o es (closing marks buffer) ∷ es) };
+          service = record { run = run_after_lem i; serving = serving_of es; denials = denials_of es; fault = fault_of o es };
+          past = record { years = years_after i; latest = latest_of o (entry o es (closing marks buffer) ∷ es) };
           readings = no_readings;
-          total = kwh (total-after i);
+          total = kwh (total_after i);
         }
 
     -- the rows: this month's hours on ground 1 or 2, and rows 12 and 13 clear
-    contents-after : (r : ℕ)
+    contents_after : (r : ℕ)
         → replaced_at
         (replaced_at (cond (becomes_past (rules (inputs_of o es marks)))
         (replaced_at (contents o es) (row_of (month_of o es)) (rules (inputs_of o es marks)).hours) (contents o es)) 12 []) 13 [] r
         ≡ contents o (entry o es (closing marks buffer) ∷ es) r
     unfolding contents look_backs
-    contents-after r =
+    contents_after r =
         by_cases (eqb r 12)
         (λ t. rw (eqb-true r 12 t))
         (λ f.
@@ -93,57 +93,57 @@ module _ (o : Opening) (es : Book) (store : List ℕ) (h : Shows o es (seen o es
         (λ t. rw (eqb-true r 13 t))
         (λ g. by_cases (becomes_past (rules (inputs_of o es marks))) (λ y. rw (f, g, y) (rw (f, g))) (λ n. rw (f, g, n) (rw (f, g)))))
 
-    rows-after : Holds (contents o (entry o es (closing marks buffer) ∷ es)) (closed_with (rules (inputs_of o es marks)) (seen o es store)).store
+    rows_after_lem : Holds (contents o (entry o es (closing marks buffer) ∷ es)) (closed_with (rules (inputs_of o es marks)) (seen o es store)).store
     unfolding closed_with point_of
-    rows-after =
+    rows_after_lem =
         let d : Date = month_of o es in
         let u : Outcome = rules (inputs_of o es marks) in
-        holds_same contents-after
+        holds_same contents_after
         (holds_put 13 [] (lit≤ tt) (lit≤ tt)
         (holds_put 12 [] (lit≤ tt) (lit≤ tt)
         (by_cases (becomes_past u)
-        (λ y. rw y (holds_put (row_of d) u.hours (omega (arith, row_few d month)) (omega (arith, work-right.long, open_high d)) h.rows))
+        (λ y. rw y (holds_put (row_of d) u.hours (omega (arith, row_few d month)) (omega (arith, work_right.long, open_high d)) h.rows))
         (λ n. rw n h.rows))))
 
-    step-closing : Shows o (entry o es (closing marks buffer) ∷ es) (accept (seen o es store) (closing marks buffer))
+    step_closing : Shows o (entry o es (closing marks buffer) ∷ es) (accept (seen o es store) (closing marks buffer))
     unfolding accept look_backs OfItsMeter MonthsClosed
-    step-closing =
+    step_closing =
         record {
           sound = call_sound (seen o es store) (closing marks buffer) h.sound t;
-          point = rw (inputs-same o es store h marks) point-after;
-          rows = rw (inputs-same o es store h marks) rows-after;
+          point = rw (inputs_same o es store h marks) point_after_lem;
+          rows = rw (inputs_same o es store h marks) rows_after_lem;
           billing = tt;
           control = tt;
-          months = (record { month = λ e. month; long = λ e. work-right.long }, h.months);
+          months = (record { month = λ e. month; long = λ e. work_right.long }, h.months);
         }
 
   -- EVERY CALL
-  step-seen : (c : Call) → accepted (seen o es store) c ≡ true → Shows o (entry o es c ∷ es) (accept (seen o es store) c)
-  step-seen (billing_hours hs) t = step-billing-hours o es store h hs t
-  step-seen (control_hours hs) t = step-control-hours o es store h hs t
-  step-seen (billing_volume v) t = step-billing-volume o es store h v t
-  step-seen (control_volume v) t = step-control-volume o es store h v t
-  step-seen (neighbour source v) t = step-neighbour o es store h source v t
-  step-seen (failure reason) t = step-failure o es store h reason t
-  step-seen admission t = step-admission o es store h t
-  step-seen denial t = step-denial o es store h t
-  step-seen permission t = step-permission o es store h t
-  step-seen (closing marks buffer) t = step-closing marks buffer t
+  step_seen : (c : Call) → accepted (seen o es store) c ≡ true → Shows o (entry o es c ∷ es) (accept (seen o es store) c)
+  step_seen (billing_hours hs) t = step_billing_hours o es store h hs t
+  step_seen (control_hours hs) t = step_control_hours o es store h hs t
+  step_seen (billing_volume v) t = step_billing_volume o es store h v t
+  step_seen (control_volume v) t = step_control_volume o es store h v t
+  step_seen (neighbour source v) t = step_neighbour o es store h source v t
+  step_seen (failure reason) t = step_failure o es store h reason t
+  step_seen admission t = step_admission o es store h t
+  step_seen denial t = step_denial o es store h t
+  step_seen permission t = step_permission o es store h t
+  step_seen (closing marks buffer) t = step_closing marks buffer t
 
 pub step : (o : Opening) (es : Book) (s : State) (c : Call) → Shows o es s → accepted s c ≡ true → Shows o (entry o es c ∷ es) (accept s c)
 step o es s c h t =
     let e : s ≡ seen o es s.store = as_seen h in
     subst (λ (x : State). Shows o (entry o es c ∷ es) (accept x c)) (sym e)
-    (step-seen o es s.store (subst (Shows o es) e h) c (subst (λ (x : State). accepted x c ≡ true) e t))
+    (step_seen o es s.store (subst (Shows o es) e h) c (subst (λ (x : State). accepted x c ≡ true) e t))
 
 -- WHAT AN ACCEPTED CLOSING WORKS BY, of a state that the book describes
 pub inputs_shown : (o : Opening) (es : Book) (s : State) (marks : List ℕ) → Shows o es s → inputs s marks ≡ inputs_of o es marks
 inputs_shown o es s marks h =
     let e : s ≡ seen o es s.store = as_seen h in
-    ap (λ (x : State). inputs x marks) e ∙ inputs-same o es s.store (subst (Shows o es) e h) marks
+    ap (λ (x : State). inputs x marks) e ∙ inputs_same o es s.store (subst (Shows o es) e h) marks
 
 pub right_shown : (o : Opening) (es : Book) (s : State) (marks buffer : List ℕ) → Shows o es s → accepted s (closing marks buffer) ≡ true
     → Right (open_hours (month_of o es)) (rules (inputs_of o es marks))
 right_shown o es s marks buffer h t =
     let e : s ≡ seen o es s.store = as_seen h in
-    work-right o es s.store (subst (Shows o es) e h) marks buffer (subst (λ (x : State). accepted x (closing marks buffer) ≡ true) e t)
+    work_right o es s.store (subst (Shows o es) e h) marks buffer (subst (λ (x : State). accepted x (closing marks buffer) ≡ true) e t)

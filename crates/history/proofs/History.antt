@@ -38,9 +38,9 @@ no_contents : (o : Opening) (r : ℕ) → [] ≡ contents o [] r
 unfolding contents look_backs
 no_contents o r = by_cases (eqb r 12) (λ t. rw t) (λ f. by_cases (eqb r 13) (λ t. rw (f, t)) (λ g. rw (f, g)))
 
-opened-shows : (o : Opening) (store : List ℕ) → opens o store ≡ true → Shows o [] (opened o)
+opened_shows : (o : Opening) (store : List ℕ) → opens o store ≡ true → Shows o [] (opened o)
 unfolding opens opened point_of look_backs OfItsMeter MonthsClosed
-opened-shows o store t =
+opened_shows o store t =
     record {
       sound = opening_sound o store t;
       point = refl;
@@ -66,7 +66,7 @@ run_opened o s ts run =
 start : (o : Opening) (s : State) (ts : List Turn) → Run o s ts → Shows o [] s
 start o s ts run =
     subst (Shows o []) (sym (run_opened o s ts run))
-    (opened-shows o run.before (opens_state o run.before s.store run.answer run.opens run.accepted))
+    (opened_shows o run.before (opens_state o run.before s.store run.answer run.opens run.accepted))
 
 -- ONE TURN, by its contract
 module _ (s : State) (t : Turn) (ts : List Turn) (does : Does (state_after s ts) t.call t.answer t.store t.buffer) where
@@ -74,25 +74,25 @@ module _ (s : State) (t : Turn) (ts : List Turn) (does : Does (state_after s ts)
   unfolding answer
   number = ap (λ (x : Answer). x.refusal) does.answered
 
-  accepted-is : was_accepted t ≡ accepted (state_after s ts) t.call
+  accepted_is : was_accepted t ≡ accepted (state_after s ts) t.call
   unfolding was_accepted accepted
-  accepted-is = ap (λ (n : ℕ). eqb n 0) number
+  accepted_is = ap (λ (n : ℕ). eqb n 0) number
 
-  state-is : state_after s (t ∷ ts) ≡ leaves (state_after s ts) t.call
+  state_is : state_after s (t ∷ ts) ≡ leaves (state_after s ts) t.call
   unfolding state_after answer
-  state-is = λ i. state (does.answered i).after (does.left i)
+  state_is = λ i. state (does.answered i).after (does.left i)
 
-  state-refused : was_accepted t ≡ false → state_after s (t ∷ ts) ≡ state_after s ts
+  state_refused : was_accepted t ≡ false → state_after s (t ∷ ts) ≡ state_after s ts
   unfolding leaves
-  state-refused f = state-is ∙ rw (sym accepted-is ∙ f)
+  state_refused f = state_is ∙ rw (sym accepted_is ∙ f)
 
   untouched : was_accepted t ≡ false → Untouched s t ts
   unfolding state_after answer buffer_after
   untouched f =
-      let n : accepted (state_after s ts) t.call ≡ false = sym accepted-is ∙ f in
+      let n : accepted (state_after s ts) t.call ≡ false = sym accepted_is ∙ f in
       record {
-        point = ap (λ (x : State). x.point) (state-refused f);
-        store = ap (λ (x : State). x.store) (state-refused f);
+        point = ap (λ (x : State). x.point) (state_refused f);
+        store = ap (λ (x : State). x.store) (state_refused f);
         buffer = does.buffered ∙ rw n;
         figures = ap (λ (x : Answer). x.figures) does.answered ∙ rw n;
       }
@@ -136,7 +136,7 @@ state_kept s [] f = refl
 state_kept s (t ∷ ts) f =
     by_cases (was_accepted t)
     (λ y. rw y)
-    (λ n. rw n (state_kept s ts f.1 ∙ sym (state-refused s t ts f.0 n)))
+    (λ n. rw n (state_kept s ts f.1 ∙ sym (state_refused s t ts f.0 n)))
 
 kept_follows : (s : State) (ts : List Turn) → Follows s ts → Follows s (without_refused ts)
 unfolding Follows without_refused
@@ -148,102 +148,102 @@ kept_follows s (t ∷ ts) f =
 
 -- OF A RUN
 module _ (o : Opening) (s : State) (begun : Shows o [] s) where
-  keep-next : (t : Turn) (ts : List Turn) → Does (state_after s ts) t.call t.answer t.store t.buffer
+  keep_next : (t : Turn) (ts : List Turn) → Does (state_after s ts) t.call t.answer t.store t.buffer
       → Shows o (book o ts) (state_after s ts) → Shows o (book o (t ∷ ts)) (state_after s (t ∷ ts))
   unfolding book feed leaves
-  keep-next t ts does h =
-      let e : state_after s (t ∷ ts) ≡ leaves (state_after s ts) t.call = state-is s t ts does in
+  keep_next t ts does h =
+      let e : state_after s (t ∷ ts) ≡ leaves (state_after s ts) t.call = state_is s t ts does in
       subst (Shows o (book o (t ∷ ts))) (sym e)
       (by_cases (was_accepted t)
-      (λ y. rw (y, sym (accepted-is s t ts does) ∙ y) (step o (book o ts) (state_after s ts) t.call h (sym (accepted-is s t ts does) ∙ y)))
-      (λ n. rw (n, sym (accepted-is s t ts does) ∙ n) h))
+      (λ y. rw (y, sym (accepted_is s t ts does) ∙ y) (step o (book o ts) (state_after s ts) t.call h (sym (accepted_is s t ts does) ∙ y)))
+      (λ n. rw (n, sym (accepted_is s t ts does) ∙ n) h))
 
   keep : (ts : List Turn) → Follows s ts → Shows o (book o ts) (state_after s ts)
   unfolding Follows book state_after
   keep [] f = begun
-  keep (t ∷ ts) f = keep-next t ts f.0 (keep ts f.1)
+  keep (t ∷ ts) f = keep_next t ts f.0 (keep ts f.1)
 
-  goes_on : (t : Turn) (ts : List Turn) → Follows s (t ∷ ts) → GoesOn t.answer.refusal
+  goes_on_lem : (t : Turn) (ts : List Turn) → Follows s (t ∷ ts) → GoesOn t.answer.refusal
   unfolding Follows
-  goes_on t ts f =
+  goes_on_lem t ts f =
       let e = number s t ts f.0 in
       let n = never_refused (state_after s ts) t.call (keep ts f.1).sound in
       record { long = rw e n.0; sound = rw e n.1; small = rw e n.2 }
 
   -- an accepted closing
-  closed-turn : (t : Turn) (ts : List Turn) → Follows s (t ∷ ts) → closes t ≡ true → Closed o (book o ts) t.call t.answer t.buffer
+  closed_turn : (t : Turn) (ts : List Turn) → Follows s (t ∷ ts) → closes t ≡ true → Closed o (book o ts) t.call t.answer t.buffer
   unfolding Follows closes
-  closed-turn t ts f y =
+  closed_turn t ts f y =
       let p = both (was_accepted t) (is_closing t.call) y in
       does_close o (book o ts) (state_after s ts) t.call t.answer t.store t.buffer (keep ts f.1) f.0
-      (sym (accepted-is s t ts f.0) ∙ p.0) p.1
+      (sym (accepted_is s t ts f.0) ∙ p.0) p.1
 
-  handed-same : (t : Turn) (ts : List Turn) → Follows s (t ∷ ts) → closes t ≡ true → handed o t ts ≡ (work_out o (book o ts) t.call).hours
+  handed_same : (t : Turn) (ts : List Turn) → Follows s (t ∷ ts) → closes t ≡ true → handed o t ts ≡ (work_out o (book o ts) t.call).hours
   unfolding handed
-  handed-same t ts f y =
-      let k = closed-turn t ts f y in
+  handed_same t ts f y =
+      let k = closed_turn t ts f y in
       rw (y, k.buffered) (take_row (work_out o (book o ts) t.call).hours (open_hours (month_of o (book o ts))) k.right.long)
 
-  as-book : (t : Turn) (ts : List Turn) → Follows s (t ∷ ts) → closes t ≡ true → AsBook o t ts
-  as-book t ts f y =
-      let k = closed-turn t ts f y in
-      record { hours = handed-same t ts f y; buffer = k.buffered; figures = k.answered }
+  as_book : (t : Turn) (ts : List Turn) → Follows s (t ∷ ts) → closes t ≡ true → AsBook o t ts
+  as_book t ts f y =
+      let k = closed_turn t ts f y in
+      record { hours = handed_same t ts f y; buffer = k.buffered; figures = k.answered }
 
   near : (t : Turn) (ts : List Turn) → Follows s (t ∷ ts) → closes t ≡ true → (h : ℕ) → h < open_hours (month_of o (book o ts))
       → NearShare (at (handed o t ts) h) ((work_out o (book o ts) t.call).exact h)
-  near t ts f y h l = rw (handed-same t ts f y) ((closed-turn t ts f y).right.near h l)
+  near t ts f y h l = rw (handed_same t ts f y) ((closed_turn t ts f y).right.near h l)
 
   -- the total
-  total-book : (ts : List Turn) → Follows s ts → (state_after s ts).point.total.0 ≡ volumes (book o ts)
+  total_book_lem : (ts : List Turn) → Follows s ts → (state_after s ts).point.total.0 ≡ volumes (book o ts)
   unfolding point_of
-  total-book ts f = ap (λ (r : Record). r.total.0) (keep ts f).point
+  total_book_lem ts f = ap (λ (r : Record). r.total.0) (keep ts f).point
 
   -- a call that closes no month hands out nothing
-  not-handed : (t : Turn) (ts : List Turn) → closes t ≡ false → handed o t ts ≡ []
+  not_handed : (t : Turn) (ts : List Turn) → closes t ≡ false → handed o t ts ≡ []
   unfolding handed
-  not-handed t ts n = rw n
+  not_handed t ts n = rw n
 
-  volumes-next : (t : Turn) (ts : List Turn) → Follows s (t ∷ ts) → volumes (book o (t ∷ ts)) ≡ sum (handed o t ts) + volumes (book o ts)
+  volumes_next : (t : Turn) (ts : List Turn) → Follows s (t ∷ ts) → volumes (book o (t ∷ ts)) ≡ sum (handed o t ts) + volumes (book o ts)
   unfolding volumes book feed closes
-  volumes-next t ts f =
+  volumes_next t ts f =
       by_cases (was_accepted t)
       (λ y.
       by_cases (is_closing t.call)
       (λ c.
       let z : closes t ≡ true = rw (y, c) in
-      let e : sum (handed o t ts) ≡ (work_out o (book o ts) t.call).volume = rw (handed-same t ts f z) (closed-turn t ts f z).right.sums in
+      let e : sum (handed o t ts) ≡ (work_out o (book o ts) t.call).volume = rw (handed_same t ts f z) (closed_turn t ts f z).right.sums in
       rw (y, entry_closes t.call (work_out o (book o ts) t.call), c, e))
-      (λ n. rw (y, entry_closes t.call (work_out o (book o ts) t.call), n, not-handed t ts (rw (y, n)), zero-add)))
-      (λ n. rw (n, not-handed t ts (rw n), zero-add))
+      (λ n. rw (y, entry_closes t.call (work_out o (book o ts) t.call), n, not_handed t ts (rw (y, n)), zero-add)))
+      (λ n. rw (n, not_handed t ts (rw n), zero-add))
 
-  volumes-handed : (ts : List Turn) → Follows s ts → volumes (book o ts) ≡ all_handed o ts
+  volumes_handed : (ts : List Turn) → Follows s ts → volumes (book o ts) ≡ all_handed o ts
   unfolding all_handed Follows volumes book
-  volumes-handed [] f = refl
-  volumes-handed (t ∷ ts) f = volumes-next t ts f ∙ ap (λ (n : ℕ). sum (handed o t ts) + n) (volumes-handed ts f.1)
+  volumes_handed [] f = refl
+  volumes_handed (t ∷ ts) f = volumes_next t ts f ∙ ap (λ (n : ℕ). sum (handed o t ts) + n) (volumes_handed ts f.1)
 
   -- the rows: the hours of the last closing of a calendar month on ground 1 or 2
-  last-next : (r : ℕ) (t : Turn) (ts : List Turn) → Follows s (t ∷ ts)
+  last_next : (r : ℕ) (t : Turn) (ts : List Turn) → Follows s (t ∷ ts)
       → as_row (last_in o (book o (t ∷ ts)) r) ≡ cond (fills_row o r t ts) t.buffer (as_row (last_in o (book o ts) r))
   unfolding last_in book feed fills_row closes became_past becomes_past figures
-  last-next r t ts f =
+  last_next r t ts f =
       by_cases (was_accepted t)
       (λ y.
       by_cases (is_closing t.call)
       (λ c.
-      let k = closed-turn t ts f (rw (y, c)) in
+      let k = closed_turn t ts f (rw (y, c)) in
       let u : Outcome = work_out o (book o ts) t.call in
       rw (y, entry_closes t.call u, c, k.answered, k.buffered)
       (by_cases ((eqb u.ground 1 || eqb u.ground 2) && eqb r (row_of (month_of o (book o ts)))) (λ b. rw b) (λ b. rw b)))
       (λ n. rw (y, entry_closes t.call (work_out o (book o ts) t.call), n)))
       (λ n. rw n)
 
-  last-buffer : (r : ℕ) (ts : List Turn) → Follows s ts → as_row (last_in o (book o ts) r) ≡ last_buffer o r ts
+  last_buffer_lem : (r : ℕ) (ts : List Turn) → Follows s ts → as_row (last_in o (book o ts) r) ≡ last_buffer o r ts
   unfolding last_buffer last_in book Follows padded
-  last-buffer r [] f = refl
-  last-buffer r (t ∷ ts) f = last-next r t ts f ∙ ap (λ (x : List ℕ). cond (fills_row o r t ts) t.buffer x) (last-buffer r ts f.1)
+  last_buffer_lem r [] f = refl
+  last_buffer_lem r (t ∷ ts) f = last_next r t ts f ∙ ap (λ (x : List ℕ). cond (fills_row o r t ts) t.buffer x) (last_buffer_lem r ts f.1)
 
   rows : (ts : List Turn) → Follows s ts → (r : ℕ) → r < 12 → row_part (state_after s ts).store r 744 ≡ last_buffer o r ts
-  rows ts f r l = (keep ts f).rows.rows r (omega arith) ∙ ap as_row (month_contents o (book o ts) r l) ∙ last-buffer r ts f
+  rows ts f r l = (keep ts f).rows.rows r (omega arith) ∙ ap as_row (month_contents o (book o ts) r l) ∙ last_buffer_lem r ts f
 
 -- DEMAND 3
 pub demand3 : Demand3Always
@@ -265,10 +265,10 @@ demand3 o s ts run =
                 kept_follows s ts f;
           };
       same_state = state_kept s ts f;
-      by_book = each s _ (as-book o s begun) ts f;
-      total_handed = total-book o s begun ts f ∙ volumes-handed o s begun ts f;
-      total_book = total-book o s begun ts f;
+      by_book = each s _ (as_book o s begun) ts f;
+      total_handed = total_book_lem o s begun ts f ∙ volumes_handed o s begun ts f;
+      total_book = total_book_lem o s begun ts f;
       rows = rows o s begun ts f;
       near = each s _ (near o s begun) ts f;
-      goes_on = each s _ (goes_on o s begun) ts f;
+      goes_on = each s _ (goes_on_lem o s begun) ts f;
     }

@@ -138,21 +138,21 @@ module _ (o : Opening) (es : Book) (store : List ℕ) (h : Shows o es (seen o es
   unfolding date_of
   last_row n = omega arith
 
-  last-number : (d : Date) → 0 < d.year → month_number d - 12 ≡ month_number (last_year d)
+  last_number : (d : Date) → 0 < d.year → month_number d - 12 ≡ month_number (last_year d)
   unfolding month_number
-  last-number d y = omega arith
+  last_number d y = omega arith
 
-  year-low : (d : Date) → OpenLimits d → 2014 ≤ d.year
+  year_low : (d : Date) → OpenLimits d → 2014 ≤ d.year
   unfolding month_number
-  year-low d k = omega (arith, k.from, k.last)
+  year_low d k = omega (arith, k.from, k.last)
 
   past_same : past_in (seen o es store) ≡ past_of o es
   unfolding past_in point_of past_of
   past_same =
       let d : Date = month_of o es in
       let k : OpenLimits d = open_limits d (month_open o es h.months) in
-      let y = year-low d k in
-      let n = last-number d (omega arith) in
+      let y = year_low d k in
+      let n = last_number d (omega arith) in
       rw (
         at_tab 12 (year_in o es) (row_of d) (omega (arith, k.last)),
         part (row_of d) (last_year d) (omega (arith, k.last)),
@@ -163,9 +163,9 @@ module _ (o : Opening) (es : Book) (store : List ℕ) (h : Shows o es (seen o es
       (year_same o es h.months (last_year d) (record { first = k.first; last = k.last; year = omega arith }) (omega (arith, k.from)) (latest_hours es))
 
   -- THE INPUTS
-  pub inputs-same : (marks : List ℕ) → inputs (seen o es store) marks ≡ inputs_of o es marks
+  pub inputs_same : (marks : List ℕ) → inputs (seen o es store) marks ≡ inputs_of o es marks
   unfolding inputs inputs_of point_of kept contents
-  inputs-same marks =
+  inputs_same marks =
       let t : ℕ = open_hours (month_of o es) in
       rw (
         past_same,

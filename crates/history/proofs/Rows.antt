@@ -14,7 +14,7 @@ use Rattle.numbers.specs.Lists.{tab, zeros, padded}
 use Rattle.numbers.proofs.Laws.{by_cases, length_tab, at_tab, at_zeros}
 use Rattle.store.specs.Store.{row_part}
 use Rattle.store.specs.Store.{as_row, with_hours, empty_store}
-use Rattle.store.proofs.Laws.{length_row, length-put, row-put-same, row-put-other, padded_none}
+use Rattle.store.proofs.Laws.{length_row, length_put, row_put_same, row_put_other, padded_none}
 
 -- hours as a row, and back
 pub take_row : (hs : List ℕ) (t : ℕ) → length hs ≡ t → take t (as_row hs) ≡ hs
@@ -40,13 +40,13 @@ pub holds_put : {f : ℕ → List ℕ} {store : List ℕ} (q : ℕ) (hs : List �
 holds_put {f} {store} q hs l m h =
     let long = length_row hs m in
     record {
-      words = length-put q (as_row hs) store h.words l long;
+      words = length_put q (as_row hs) store h.words l long;
       rows = λ r b.
           by_cases (eqb r q)
-          (λ t. rw (t, eqb-true r q t) (row-put-same q (as_row hs) store h.words l long))
+          (λ t. rw (t, eqb-true r q t) (row_put_same q (as_row hs) store h.words l long))
           (λ n.
           rw n
-          (row-put-other q (as_row hs) store h.words l long r
+          (row_put_other q (as_row hs) store h.words l long r
           (elim (dec_lt r q) [ yes k ↦ inl k | no k ↦ inr (omega (arith, eqb-false r q n)) ])
           ∙ h.rows r b));
     }

@@ -66,9 +66,9 @@ entry_closes permission u = refl
 entry_closes (closing marks buffer) u = refl
 
 -- and else nothing is asked of it
-open-entered : (o : Opening) (es : Book) (c : Call) → is_closing c ≡ false → Entered o (entry o es c) es
+open_entered : (o : Opening) (es : Book) (c : Call) → is_closing c ≡ false → Entered o (entry o es c) es
 unfolding became_past
-open-entered o es c f =
+open_entered o es c f =
     let n : of_kind closed (entry o es c) ≡ false = entry_closes c (work_out o es c) ∙ f in
     record {
       month = λ t. absurd (true≢false (sym t ∙ n));
@@ -88,19 +88,19 @@ module _ (o : Opening) (es : Book) (store : List ℕ) (h : Shows o es (seen o es
       → Shows o (entry o es c ∷ es) (accept (seen o es store) c)
   unfolding MonthsClosed
   between c t n p r b k =
-      record { sound = call_sound (seen o es store) c h.sound t; point = p; rows = r; billing = b; control = k; months = (open-entered o es c n, h.months) }
+      record { sound = call_sound (seen o es store) c h.sound t; point = p; rows = r; billing = b; control = k; months = (open_entered o es c n, h.months) }
 
-  pub step-admission : Steps admission
+  pub step_admission : Steps admission
   unfolding accept point_of contents look_backs
-  step-admission t = between admission t refl refl (holds_same (λ r. refl) h.rows) h.billing h.control
+  step_admission t = between admission t refl refl (holds_same (λ r. refl) h.rows) h.billing h.control
 
-  pub step-permission : Steps permission
+  pub step_permission : Steps permission
   unfolding accept point_of contents look_backs
-  step-permission t = between permission t refl refl (holds_same (λ r. refl) h.rows) h.billing h.control
+  step_permission t = between permission t refl refl (holds_same (λ r. refl) h.rows) h.billing h.control
 
-  pub step-billing-hours : (hs : List ℕ) → Steps (billing_hours hs)
+  pub step_billing_hours : (hs : List ℕ) → Steps (billing_hours hs)
   unfolding accept point_of kept look_backs own_refusal OfItsMeter
-  step-billing-hours hs t =
+  step_billing_hours hs t =
       let q = reading_passed (call_passed (seen o es store) (billing_hours hs) t).own in
       let e : length hs ≡ open_hours (month_of o es) = tested q.long in
       between (billing_hours hs) t refl refl
@@ -108,9 +108,9 @@ module _ (o : Opening) (es : Book) (store : List ℕ) (h : Shows o es (seen o es
       (holds_put 12 hs (lit≤ tt) (omega (arith, open_high (month_of o es))) h.rows))
       (tested q.meter, e) h.control
 
-  pub step-control-hours : (hs : List ℕ) → Steps (control_hours hs)
+  pub step_control_hours : (hs : List ℕ) → Steps (control_hours hs)
   unfolding accept point_of kept look_backs own_refusal OfItsMeter
-  step-control-hours hs t =
+  step_control_hours hs t =
       let q = reading_passed (call_passed (seen o es store) (control_hours hs) t).own in
       let e : length hs ≡ open_hours (month_of o es) = tested q.long in
       between (control_hours hs) t refl refl
@@ -118,23 +118,23 @@ module _ (o : Opening) (es : Book) (store : List ℕ) (h : Shows o es (seen o es
       (holds_put 13 hs (lit≤ tt) (omega (arith, open_high (month_of o es))) h.rows))
       h.billing (tested q.meter, e)
 
-  pub step-billing-volume : (v : ℕ) → Steps (billing_volume v)
+  pub step_billing_volume : (v : ℕ) → Steps (billing_volume v)
   unfolding accept point_of kept contents look_backs own_refusal OfItsMeter
-  step-billing-volume v t =
+  step_billing_volume v t =
       let q = reading_passed (call_passed (seen o es store) (billing_volume v) t).own in
       let n : hours_read (billing_of es) ≡ [] = no_hours (billing_of es) q.first in
       between (billing_volume v) t refl refl (holds_same (λ r. rw n) h.rows) (tested q.meter) h.control
 
-  pub step-control-volume : (v : ℕ) → Steps (control_volume v)
+  pub step_control_volume : (v : ℕ) → Steps (control_volume v)
   unfolding accept point_of kept contents look_backs own_refusal OfItsMeter
-  step-control-volume v t =
+  step_control_volume v t =
       let q = reading_passed (call_passed (seen o es store) (control_volume v) t).own in
       let n : hours_read (this_months (of_kind control) es) ≡ [] = no_hours (this_months (of_kind control) es) q.first in
       between (control_volume v) t refl refl (holds_same (λ r. rw n) h.rows) h.billing (tested q.meter)
 
-  pub step-neighbour : (source v : ℕ) → Steps (neighbour source v)
+  pub step_neighbour : (source v : ℕ) → Steps (neighbour source v)
   unfolding accept point_of contents look_backs own_refusal
-  step-neighbour source v t =
+  step_neighbour source v t =
       let q = reading_passed (call_passed (seen o es store) (neighbour source v) t).own in
       between (neighbour source v) t refl
       (by_cases (eqb source 1)
@@ -142,9 +142,9 @@ module _ (o : Opening) (es : Book) (store : List ℕ) (h : Shows o es (seen o es
       (λ f. rw (eqb-true source 2 (not-false _ (rw f at q.meter)))))
       (holds_same (λ r. refl) h.rows) h.billing h.control
 
-  pub step-denial : Steps denial
+  pub step_denial : Steps denial
   unfolding accept point_of contents look_backs OfItsMeter
-  step-denial t =
+  step_denial t =
       between denial t refl
       (by_cases (eqb (denials_of es) 1) (λ y. rw (y, add-one)) (λ f. rw (f, add-one)))
       (by_cases (eqb (denials_of es) 1)
@@ -153,9 +153,9 @@ module _ (o : Opening) (es : Book) (store : List ℕ) (h : Shows o es (seen o es
       (by_cases (eqb (denials_of es) 1) (λ y. rw y tt) (λ f. rw f h.billing))
       h.control
 
-  pub step-failure : (reason : ℕ) → Steps (failure reason)
+  pub step_failure : (reason : ℕ) → Steps (failure reason)
   unfolding accept point_of look_backs OfItsMeter
-  step-failure reason t =
+  step_failure reason t =
       between (failure reason) t refl
       (rw (last_is_any o (month_number (month_of o es)) es h.months))
       (holds_same (row_12 o es (entry o es (failure reason) ∷ es) [] refl refl (λ r. refl)) (holds_put 12 [] (lit≤ tt) (lit≤ tt) h.rows))

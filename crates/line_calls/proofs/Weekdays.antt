@@ -116,9 +116,9 @@ month_on y (suc (suc (suc (suc (suc (suc (suc (suc (suc (suc (suc zero))))))))))
     rw (and_false (leap_year y), less_none y, back y) (later (moved y) 4 0 31 5 refl)
 month_on y (suc (suc (suc (suc (suc (suc (suc (suc (suc (suc (suc (suc m)))))))))))) l h = absurd (omega arith)
 
-open-first : (d : Date) → is_open d ≡ true → first_weekday d ≡ first d
+open_first : (d : Date) → is_open d ≡ true → first_weekday d ≡ first d
 unfolding first_weekday
-open-first d h = rw h
+open_first d h = rw h
 
 month_length : (d : Date) → is_month d ≡ true → month_days d ≡ days d
 unfolding month_days
@@ -136,6 +136,6 @@ shown y (suc m) k l h = month_on y m h (omega arith)
 pub follows : (d : Date) → is_month d ≡ true → first_weekday (next_month d) ≡ (first_weekday d + month_days d) % 7
 follows d h =
     let l = limits d h in
-    open-first (next_month d) (open_next d h)
+    open_first (next_month d) (open_next d h)
     ∙ shown d.year d.month l.first l.last (omega (arith, l.from))
-    ∙ rw (open-first d (is_open_lem d h), month_length d h)
+    ∙ rw (open_first d (is_open_lem d h), month_length d h)

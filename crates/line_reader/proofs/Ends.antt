@@ -49,128 +49,128 @@ module _ (s : Line) (t : Token) (e : s.error ≡ no_error) where
   fail : {n : ℕ} → 1 ≤ n → Stands (with_error n t.from s)
   fail {n} l = fails refl (λ z. absurd (omega arith))
 
-  begun-stands : (call : ℕ) → Stands (begun call s)
+  begun_stands : (call : ℕ) → Stands (begun call s)
   unfolding begun
-  begun-stands call =
+  begun_stands call =
       goes e
       (cond_most (eqb call close_call) (omega arith)
       (cond_most (eqb call billing_hours_call || eqb call control_hours_call) (omega arith)
       (cond_most (leb admission_call call && leb call permission_call) (omega arith) (omega arith))))
 
-  taken-stands : (v : ℕ) → Stands (value_taken v s)
+  taken_stands : (v : ℕ) → Stands (value_taken v s)
   unfolding value_taken
-  taken-stands v =
+  taken_stands v =
       goes e
       (cond_most (eqb s.key year_key) (omega arith)
       (cond_most (eqb s.key source_key) (omega arith) (cond_most (leb s.key phases_key) (omega arith) (omega arith))))
 
-  call-stands : Stands (in_call s t)
+  call_stands : Stands (in_call s t)
   unfolding in_call
-  call-stands =
+  call_stands =
       let call = if_word t (call_of t.value) no_call in
       stands_either (eqb t.kind end_kind) (goes e (omega arith))
-      (stands_either (eqb call no_call) (fail (omega arith)) (begun-stands call))
+      (stands_either (eqb call no_call) (fail (omega arith)) (begun_stands call))
 
-  value-stands : Stands (in_value s t)
+  value_stands : Stands (in_value s t)
   unfolding in_value
-  value-stands =
+  value_stands =
       let v = if_word t (word_value s.key t.value) absent in
       stands_either (eqb t.kind number_kind)
-      (stands_either (ltb (largest_for s.key) t.value) (fail (omega arith)) (taken-stands t.value))
-      (stands_either (eqb v absent) (fail (expected_some s.key)) (taken-stands v))
+      (stands_either (ltb (largest_for s.key) t.value) (fail (omega arith)) (taken_stands t.value))
+      (stands_either (eqb v absent) (fail (expected_some s.key)) (taken_stands v))
 
-  dash-stands : Stands (in_dash s t)
+  dash_stands : Stands (in_dash s t)
   unfolding in_dash
-  dash-stands = stands_either (eqb t.kind dash_kind) (goes e (omega arith)) (fail (omega arith))
+  dash_stands = stands_either (eqb t.kind dash_kind) (goes e (omega arith)) (fail (omega arith))
 
-  argument-stands : Stands (in_argument s t)
+  argument_stands : Stands (in_argument s t)
   unfolding in_argument named_as
-  argument-stands =
+  argument_stands =
       let key = if_word t (key_of t.value) no_key in
       stands_either (eqb t.kind end_kind) (goes e (omega arith))
       (stands_either (eqb key no_key) (fail (omega arith))
       (stands_either (not (eqb (value_in key s) absent)) (fail (omega arith))
       (stands_either (eqb key currents_key) (goes e (omega arith)) (goes e (omega arith)))))
 
-  form-stands : Stands (in_form s t)
+  form_stands : Stands (in_form s t)
   unfolding in_form
-  form-stands =
+  form_stands =
       stands_either (eqb t.kind word_kind && is_word t.value "hours") (goes e (omega arith))
       (stands_either (eqb t.kind word_kind && is_word t.value "volume") (goes e (omega arith)) (fail (omega arith)))
 
-  last-stands : Stands (in_last s t)
+  last_stands : Stands (in_last s t)
   unfolding in_last
-  last-stands = stands_either (eqb t.kind end_kind) (goes e (omega arith)) (fail (omega arith))
+  last_stands = stands_either (eqb t.kind end_kind) (goes e (omega arith)) (fail (omega arith))
 
-  in-call-stands : Stands (after_token_in_call s t)
+  in_call_stands : Stands (after_token_in_call s t)
   unfolding after_token_in_call
-  in-call-stands =
-      stands_either (eqb s.mode call_mode) call-stands
-      (stands_either (eqb s.mode value_mode) value-stands
-      (stands_either (eqb s.mode dash_mode) dash-stands
-      (stands_either (eqb s.mode argument_mode) argument-stands (stands_either (eqb s.mode form_mode) form-stands last-stands))))
+  in_call_stands =
+      stands_either (eqb s.mode call_mode) call_stands
+      (stands_either (eqb s.mode value_mode) value_stands
+      (stands_either (eqb s.mode dash_mode) dash_stands
+      (stands_either (eqb s.mode argument_mode) argument_stands (stands_either (eqb s.mode form_mode) form_stands last_stands))))
 
-  adding-stands : (times : ℕ) → Stands (adding times s t)
+  adding_stands : (times : ℕ) → Stands (adding times s t)
   unfolding adding
-  adding-stands times =
+  adding_stands times =
       stands_either (ltb s.numbers.limit t.value) (fail (omega arith))
       (stands_either (ltb 4096 (s.numbers.count + s.numbers.inner + times)) (fail (omega arith))
       (goes e (cond_most (ltb outside_depth s.numbers.depth) (omega arith) (omega arith))))
 
-  counting-stands : Stands (counting s t)
+  counting_stands : Stands (counting s t)
   unfolding counting
-  counting-stands = stands_either (ltb 4096 t.value) (fail (omega arith)) (goes e (omega arith))
+  counting_stands = stands_either (ltb 4096 t.value) (fail (omega arith)) (goes e (omega arith))
 
   word_stands : Stands (word_in s t)
   unfolding word_in
   word_stands =
       let fresh = eqb s.numbers.fresh 1 in
-      stands_either (eqb s.call open_call) (stands_either fresh (fail (omega arith)) argument-stands)
+      stands_either (eqb s.call open_call) (stands_either fresh (fail (omega arith)) argument_stands)
       (stands_either (is_word t.value "week") (goes e (omega arith))
       (stands_either (fresh && is_word t.value "none") (goes e (omega arith)) (fail (omega arith))))
 
-  list-stands : Stands (in_list s t)
+  list_stands : Stands (in_list s t)
   unfolding in_list
-  list-stands =
-      stands_either (eqb t.kind number_kind) (adding-stands 1)
-      (stands_either (eqb t.kind count_kind) counting-stands
+  list_stands =
+      stands_either (eqb t.kind number_kind) (adding_stands 1)
+      (stands_either (eqb t.kind count_kind) counting_stands
       (stands_either (eqb t.kind word_kind) word_stands
       (stands_either (eqb t.kind end_kind && not (eqb s.numbers.fresh 1)) (goes e (omega arith)) (fail (omega arith)))))
 
-  closing-stands : (hours : ℕ) → Stands (group_closed hours s t)
+  closing_stands : (hours : ℕ) → Stands (group_closed hours s t)
   unfolding group_closed
-  closing-stands hours =
+  closing_stands hours =
       let n = s.numbers in
       let week = eqb n.depth second_day_depth in
       stands_either (eqb n.depth first_day_depth) (stands_either (not (eqb n.inner 24)) (fail (omega arith)) (goes e (omega arith)))
       (stands_either (week && not (eqb n.inner 48)) (fail (omega arith))
       (stands_either (ltb 4096 (n.count + cond week 1 n.repeat * cond week hours n.inner)) (fail (omega arith)) (goes e (omega arith))))
 
-  group-stands : (hours : ℕ) → Stands (in_group hours s t)
+  group_stands : (hours : ℕ) → Stands (in_group hours s t)
   unfolding in_group
-  group-stands hours =
-      stands_either (eqb t.kind number_kind) (adding-stands 1)
-      (stands_either (eqb t.kind count_kind) counting-stands
-      (stands_either (eqb t.kind right_kind && not (eqb s.numbers.fresh 1)) (closing-stands hours) (fail (omega arith))))
+  group_stands hours =
+      stands_either (eqb t.kind number_kind) (adding_stands 1)
+      (stands_either (eqb t.kind count_kind) counting_stands
+      (stands_either (eqb t.kind right_kind && not (eqb s.numbers.fresh 1)) (closing_stands hours) (fail (omega arith))))
 
-  counted-stands : Stands (in_counted s t)
+  counted_stands : Stands (in_counted s t)
   unfolding in_counted
-  counted-stands =
-      stands_either (eqb t.kind number_kind) (adding-stands s.numbers.times)
+  counted_stands =
+      stands_either (eqb t.kind number_kind) (adding_stands s.numbers.times)
       (stands_either (eqb t.kind left_kind && eqb s.numbers.depth outside_depth) (goes e (omega arith)) (fail (omega arith)))
 
-  day-stands : Stands (in_day s t)
+  day_stands : Stands (in_day s t)
   unfolding in_day
-  day-stands = stands_either (eqb t.kind left_kind) (goes e (omega arith)) (fail (omega arith))
+  day_stands = stands_either (eqb t.kind left_kind) (goes e (omega arith)) (fail (omega arith))
 
-  after-token-stands : (hours : ℕ) → Stands (after_token hours s t)
+  after_token_stands : (hours : ℕ) → Stands (after_token hours s t)
   unfolding after_token
-  after-token-stands hours =
+  after_token_stands hours =
       stands_either (eqb t.kind foreign_kind) (fail (omega arith))
       (stands_either (eqb t.kind long_kind) (fail (omega arith))
-      (stands_either (eqb s.mode list_mode) list-stands
-      (stands_either (eqb s.mode group_mode) (group-stands hours)
-      (stands_either (eqb s.mode counted_mode) counted-stands (stands_either (eqb s.mode day_mode) day-stands in-call-stands)))))
+      (stands_either (eqb s.mode list_mode) list_stands
+      (stands_either (eqb s.mode group_mode) (group_stands hours)
+      (stands_either (eqb s.mode counted_mode) counted_stands (stands_either (eqb s.mode day_mode) day_stands in_call_stands)))))
 
 -- THE END OF THE LINE FINISHES IT, whatever was expected
 data Done (s : Line) : Type 0 where
@@ -227,7 +227,7 @@ no_error_lem (fails f n) m = absurd (omega (arith, f))
 next_stands : (hours : ℕ) (line : List ℕ) (s : Line) → s.error ≡ no_error → Stands (next_token hours line s)
 unfolding next_token
 next_stands hours line s e =
-    elim (after-token-stands (with_numbers s.mode (without_action s.numbers) s) (token_at line s.at) e hours) [
+    elim (after_token_stands (with_numbers s.mode (without_action s.numbers) s) (token_at line s.at) e hours) [
       | goes f l ↦ goes f l
       | fails f n ↦ fails f n
     ]
@@ -244,16 +244,16 @@ next_far hours line s n l =
     ⊎_elim (λ k. inl (at_end hours line s k)) (λ m. inr (omega arith)) (token_on line s.at)
 
 module _ (hours first : ℕ) (line : List ℕ) (r : LineRead) (g : leb read_mode r.line.mode ≡ false) where
-  token-more : (n : ℕ) → Far n r.line → Far (n + 1) (read_token hours first line r).line
+  token_more : (n : ℕ) → Far n r.line → Far (n + 1) (read_token hours first line r).line
   unfolding read_token
-  token-more n f =
+  token_more n f =
       let m : r.line.mode < read_mode = leb-false _ _ g in
       let at : n ≤ r.line.at = ⊎_elim (λ d. absurd (omega arith)) (λ l. l) f.far in
       rw g (record { stands = next_stands hours line r.line (no_error_lem f.stands m); far = next_far hours line r.line n at })
 
-  token-last : (read_mode ≤ r.line.mode) ⊎ (length line ≤ r.line.at) → read_mode ≤ (read_token hours first line r).line.mode
+  token_last : (read_mode ≤ r.line.mode) ⊎ (length line ≤ r.line.at) → read_mode ≤ (read_token hours first line r).line.mode
   unfolding read_token
-  token-last far =
+  token_last far =
       let m : r.line.mode < read_mode = leb-false _ _ g in
       let at : length line ≤ r.line.at = ⊎_elim (λ d. absurd (omega arith)) (λ l. l) far in
       rw g (at_end hours line r.line (token_end line r.line.at at))
@@ -263,7 +263,7 @@ token_far : (hours first : ℕ) (line : List ℕ) (r : LineRead) (n : ℕ) → F
 token_far hours first line r n f =
     by_cases (leb read_mode r.line.mode)
     (λ t. rw (token_done hours first line r t) (record { stands = f.stands; far = inl (leb-true _ _ t) }))
-    (λ g. token-more hours first line r g n f)
+    (λ g. token_more hours first line r g n f)
 
 tokens_far : (k hours first : ℕ) (line : List ℕ) (r : LineRead) (n : ℕ) → Far n r.line
     → Far (n + k) (read_tokens k hours first line r).line
@@ -279,7 +279,7 @@ end_far : (hours first : ℕ) (line : List ℕ) (r : LineRead) → Far (length l
 end_far hours first line r f =
     by_cases (leb read_mode r.line.mode)
     (λ t. rw (token_done hours first line r t) (leb-true _ _ t))
-    (λ g. token-last hours first line r g f.far)
+    (λ g. token_last hours first line r g f.far)
 
 -- THE LINE IS READ, WITH NO ERROR, OR FAILED, WITH ONE
 ended : {s : Line} → Stands s → read_mode ≤ s.mode → Ended s

@@ -12,7 +12,7 @@ use Rattle.numbers.proofs.Laws.{by_cases, tab_same, at_tab, count_none, count_so
 use Rattle.sharing.specs.Shares.{one, ones, others, every, taken, share, shares, spread, apart_at, shares_apart}
 use Rattle.sharing.proofs.Laws.{Near, share_same}
 use Rattle.sharing.proofs.Rule.{sum_apart, length_apart, all_hours, shares_tab, chosen_same}
-use Rattle.sharing.proofs.Even.{even-near, even-most, share_none}
+use Rattle.sharing.proofs.Even.{even_near, even_most, share_none}
 use Rattle.marks.specs.Marks.{peak_at, peak_count, crowded}
 use Rattle.marks.specs.Peak.{peak_part, peak_rule}
 use Rattle.marks.proofs.Laws.{peaks_most}
@@ -71,35 +71,35 @@ near_sum near e = rw e near
 
 -- the part of the peak hours, and of the others, in hour h
 module _ (v p : ℕ) (marks : List ℕ) (h : ℕ) where
-  peak-share : ℕ
-  peak-share = share (peak_part v p marks) (length marks) (taken (length marks) (peak_at marks) one) h
+  peak_share : ℕ
+  peak_share = share (peak_part v p marks) (length marks) (taken (length marks) (peak_at marks) one) h
 
-  other-share : ℕ
-  other-share = share (v - peak_part v p marks) (length marks) (taken (length marks) (off_peak_at marks) one) h
+  other_share : ℕ
+  other_share = share (v - peak_part v p marks) (length marks) (taken (length marks) (off_peak_at marks) one) h
 
-  peak-share-most : peak-share ≤ cond (peak_at marks h) p 0
-  unfolding peak-share peak_count
-  peak-share-most =
+  peak_share_most : peak_share ≤ cond (peak_at marks h) p 0
+  unfolding peak_share peak_count
+  peak_share_most =
       elim (dec_lt 0 (peak_count marks)) [
-        | yes some ↦ even-most (length marks) (peak_at marks) some (peak_part v p marks) h p (part_most v p marks).1
+        | yes some ↦ even_most (length marks) (peak_at marks) some (peak_part v p marks) h p (part_most v p marks).1
         | no none ↦ rw (part_none v p marks (omega arith), share_none (length marks) (taken (length marks) (peak_at marks) one) h) (omega arith)
       ]
 
-  other-share-most : (x : ℕ) → 0 < length marks - peak_count marks → v ≤ x * (length marks - peak_count marks)
-      → other-share ≤ cond (off_peak_at marks h) x 0
-  unfolding other-share
-  other-share-most x some l =
-      even-most (length marks) (off_peak_at marks) (rw (other_count marks) some) (v - peak_part v p marks) h x (rw (other_count marks) (omega arith))
+  other_share_most : (x : ℕ) → 0 < length marks - peak_count marks → v ≤ x * (length marks - peak_count marks)
+      → other_share ≤ cond (off_peak_at marks h) x 0
+  unfolding other_share
+  other_share_most x some l =
+      even_most (length marks) (off_peak_at marks) (rw (other_count marks) some) (v - peak_part v p marks) h x (rw (other_count marks) (omega arith))
 
 -- LAW: no hour above 3,000,000 where the marks pass 42, V is at most T × 1,000,000 and P at most 1,000,000
 pub peak_rule_most : (v p k : ℕ) (marks : List ℕ) → length marks ≡ 24 * k → 0 < k → crowded marks k ≡ false → p ≤ 1000000
     → v ≤ length marks * 1000000
     → (h : ℕ) → h < length marks → at (peak_rule v p marks) h ≤ 3000000
-unfolding peak-share other-share
+unfolding peak_share other_share
 peak_rule_most v p k marks e some f power volume h l =
     let n = peaks_most marks k e f in
-    let a = peak-share-most v p marks h in
-    let b = other-share-most v p marks h 3000000 (omega arith) (omega arith) in
+    let a = peak_share_most v p marks h in
+    let b = other_share_most v p marks h 3000000 (omega arith) (omega arith) in
     rw (at_peak_rule v p marks h l)
     (by_cases (peak_at marks h)
     (λ t. let a' = rw t at a in let b' = rw t at b in omega arith)
@@ -107,16 +107,16 @@ peak_rule_most v p k marks e some f power volume h l =
 
 -- LAW: an hour is less than one kWh from its exact share, A/n in a peak hour and (V - A)/(T - n) in another
 module _ (v p : ℕ) (marks : List ℕ) (h : ℕ) (l : h < length marks) (rest : 0 < length marks - peak_count marks) where
-  pub peak-near : peak_at marks h ≡ true → Near (at (peak_rule v p marks) h) (peak_part v p marks) 1 (peak_count marks)
-  unfolding other-share peak_count
-  peak-near t =
-      let none : other-share v p marks h ≤ 0 = rw t at (other-share-most v p marks h v rest (omega (arith, mul-le-mul_left v rest))) in
-      near_sum (even-near (length marks) (peak_at marks) (count_some (peak_at marks) (length marks) h l t) (peak_part v p marks) h t)
+  pub peak_near : peak_at marks h ≡ true → Near (at (peak_rule v p marks) h) (peak_part v p marks) 1 (peak_count marks)
+  unfolding other_share peak_count
+  peak_near t =
+      let none : other_share v p marks h ≤ 0 = rw t at (other_share_most v p marks h v rest (omega (arith, mul-le-mul_left v rest))) in
+      near_sum (even_near (length marks) (peak_at marks) (count_some (peak_at marks) (length marks) h l t) (peak_part v p marks) h t)
       (at_peak_rule v p marks h l ∙ omega arith)
 
-  pub other-near : peak_at marks h ≡ false → Near (at (peak_rule v p marks) h) (v - peak_part v p marks) 1 (length marks - peak_count marks)
-  unfolding peak-share
-  other-near f =
-      let none : peak-share v p marks h ≤ 0 = rw f at (peak-share-most v p marks h) in
-      near_sum (rw (other_count marks) at (even-near (length marks) (off_peak_at marks) (rw (other_count marks) rest) (v - peak_part v p marks) h (rw f)))
+  pub other_near : peak_at marks h ≡ false → Near (at (peak_rule v p marks) h) (v - peak_part v p marks) 1 (length marks - peak_count marks)
+  unfolding peak_share
+  other_near f =
+      let none : peak_share v p marks h ≤ 0 = rw f at (peak_share_most v p marks h) in
+      near_sum (rw (other_count marks) at (even_near (length marks) (off_peak_at marks) (rw (other_count marks) rest) (v - peak_part v p marks) h (rw f)))
       (at_peak_rule v p marks h l ∙ omega arith)

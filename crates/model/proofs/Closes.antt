@@ -25,7 +25,7 @@ use Rattle.record.specs.Record.{is_set, with_run}
 use Rattle.validity.specs.Valid.{all_of, contract_tests, year_fits, reading_tests, volume_limit}
 use Rattle.validity.proofs.Laws.{each_test, valid_parts, valid_from, service_parts, service_from, PastFits, past_parts, past_from, readings_parts, none_fit}
 use Rattle.store.specs.Store.{as_row, put_row, store_fits}
-use Rattle.store.proofs.Laws.{length_row, length-put, put-fits-month, put-fits-past, row-part-fits, row-part-fits-month}
+use Rattle.store.proofs.Laws.{length_row, length_put, put_fits_month, put_fits_past, row_part_fits, row_part_fits_month}
 use Rattle.rules.specs.Calls.{closing}
 use Rattle.rules.specs.Rules.{rules, becomes_past}
 use Rattle.rules.specs.Right.{HoursFit, MeasuredFits, PastHoursFit, InputsFit}
@@ -76,7 +76,7 @@ row_hours_lem : (store : List ℕ) (r t : ℕ) → length store ≡ 10416 → st
     → HoursFit t (row_part store r t)
 row_hours_lem store r t words fits low high l = record {
   long = length-take-le t (drop (744 * r) store) (rw (length-drop (744 * r) store) (omega arith));
-  small = row-part-fits-month r t store fits low;
+  small = row_part_fits_month r t store fits low;
 }
 
 -- the volume of a reading is within its limit
@@ -92,12 +92,12 @@ past_small : (s : State) → store_fits s.store ≡ true → PastHoursFit (past_
 unfolding past_in
 past_small s f =
     by_cases (eqb (at s.point.past.years (row_of s.point.date)) (s.point.date.year - 1))
-    (λ y. rw y (row-part-fits (row_of (last_year s.point.date)) (open_hours (last_year s.point.date)) s.store f))
+    (λ y. rw y (row_part_fits (row_of (last_year s.point.date)) (open_hours (last_year s.point.date)) s.store f))
     (λ n.
     rw n
     (by_cases (eqb s.point.past.latest 0)
     (λ y. rw y tt)
-    (λ m. rw m (row-part-fits (row_of (date_of s.point.past.latest)) (open_hours (date_of s.point.past.latest)) s.store f))))
+    (λ m. rw m (row_part_fits (row_of (date_of s.point.past.latest)) (open_hours (date_of s.point.past.latest)) s.store f))))
 
 -- the inputs of an accepted closing are those of which the rules are right
 pub inputs_fit : (s : State) (marks buffer : List ℕ) → accepted s (closing marks buffer) ≡ true → InputsFit (inputs s marks)
@@ -211,15 +211,15 @@ record Stored (store : List ℕ) : Type 0 where
 
 cleared : (row : ℕ) (store : List ℕ) → 12 ≤ row → row ≤ 13 → Stored store → Stored (put_row row (as_row []) store)
 cleared row store low high f = record {
-  words = length-put row (as_row []) store f.words high (length_row [] (lit≤ tt));
-  fits = put-fits-month row [] store f.words f.fits (lit≤ tt) low high no_hours;
+  words = length_put row (as_row []) store f.words high (length_row [] (lit≤ tt));
+  fits = put_fits_month row [] store f.words f.fits (lit≤ tt) low high no_hours;
 }
 
 filed : (row : ℕ) (hs store : List ℕ) → row ≤ 11 → length hs ≤ 744 → none_above 3000000 hs ≡ true → Stored store
     → Stored (put_row row (as_row hs) store)
 filed row hs store l short n f = record {
-  words = length-put row (as_row hs) store f.words (omega arith) (length_row hs short);
-  fits = put-fits-past row hs store f.words f.fits short l n;
+  words = length_put row (as_row hs) store f.words (omega arith) (length_row hs short);
+  fits = put_fits_past row hs store f.words f.fits short l n;
 }
 
 -- A POINT GOES ON with a closing that has room

@@ -66,7 +66,7 @@ abbrev cable : ℕ → ℕ → ℕ → ℕ → Cable
 cable i u c f = record { amperes = i; volts = u; cosine = c; phases = f }
 
 -- a bad cable, list and place are nothing to basis 1; two numbers that apply give the lower one
-opening-numbers :
+opening_numbers :
     (open_refusal 10415 (opening 2013 1 0 3 0 0 no_cable [] 0) ≡ 1) × (open_refusal 10416 (opening 2013 12 0 0 1 100 no_cable [] 0) ≡ 10)
     × (open_refusal 10416 (opening 3000 1 1 0 1 100 no_cable [] 0) ≡ 10) × (open_refusal 10416 (opening 2023 0 1 0 1 100 no_cable [] 0) ≡ 10)
     × (open_refusal 10416 (opening 2023 1 0 0 0 100 no_cable [] 0) ≡ 11) × (open_refusal 10416 (opening 2023 1 3 0 1 100 no_cable [] 0) ≡ 11)
@@ -81,17 +81,17 @@ opening-numbers :
     × (open_refusal 10416 (opening 2014 1 1 0 1 1000000 (cable 0 0 0 9) [] 7) ≡ 0)
     × (open_refusal 10416 (opening 2999 12 2 2 3 0 (cable 2000 250000 0 3) [] 0) ≡ 0)
 unfolding refusal_definitions
-opening-numbers = (refl, refl, refl, refl, refl, refl, refl, refl, refl, refl, refl, refl, refl, refl, refl, refl, refl, refl, refl, refl)
+opening_numbers = (refl, refl, refl, refl, refl, refl, refl, refl, refl, refl, refl, refl, refl, refl, refl, refl, refl, refl, refl, refl)
 
 -- what is kept: P on basis 1 and 2, with a share of 0 too, the cable alone on basis 3
-opening-keeps :
+opening_keeps :
     (kept (opening 2023 1 1 0 1 100 (cable 5 5 5 1) (9 ∷ []) 3).asked (9 ∷ []) 3 ≡ contract 1 0)
     × ((kept (opening 2023 1 1 0 2 1 no_cable [] 0).asked (1 ∷ 1 ∷ []) 0).power.0 ≡ 0)
     × ((kept (opening 2023 1 1 0 2 1 no_cable [] 0).asked (1 ∷ 1 ∷ []) 1).power.0 ≡ 1)
     × ((kept (opening 2023 1 1 0 3 77 (cable 100 230 0 3) [] 0).asked [] 0).power.0 ≡ 0)
     × ((kept (opening 2023 1 1 0 3 77 (cable 100 230 0 3) [] 0).asked [] 0).cable ≡ cable 100 230 0 3)
 unfolding kept power_on shared_power shares_over spread taken portion
-opening-keeps = (refl, refl, refl, refl, refl)
+opening_keeps = (refl, refl, refl, refl, refl)
 
 -- METER READERS
 abbrev hours : ℕ → List ℕ

@@ -21,7 +21,7 @@ use Rattle.validity.specs.Valid.{volume_limit, valid}
 use Rattle.validity.proofs.Laws.{Valid, valid_parts, valid_from, ServiceFits, service_parts, service_from, ReadingsFit, readings_parts}
 use Rattle.validity.proofs.Laws.{readings_from, missing_fits, hours_fit, volume_fits}
 use Rattle.store.specs.Store.{as_row, put_row}
-use Rattle.store.proofs.Laws.{length_row, length-put, put-fits-month}
+use Rattle.store.proofs.Laws.{length_row, length_put, put_fits_month}
 use Rattle.rules.specs.Calls.{Call, billing_hours, control_hours, billing_volume, control_volume, neighbour, failure, admission, denial, permission}
 use Rattle.rules.specs.Calls.{closing, is_closing, is_fault}
 use Rattle.model.specs.Refusals.{own_refusal}
@@ -79,8 +79,8 @@ written : (s : State) (r : Record) (row : ℕ) (hs : List ℕ) → StateFits s �
 written s r row hs f v y low high l n = record {
   record_fits = v;
   twelve = y;
-  words = length-put row (as_row hs) s.store f.words high (length_row hs l);
-  store_fits_lem = put-fits-month row hs s.store f.words f.store_fits_lem l low high n;
+  words = length_put row (as_row hs) s.store f.words high (length_row hs l);
+  store_fits_lem = put_fits_month row hs s.store f.words f.store_fits_lem l low high n;
 }
 
 -- the store as it was

@@ -15,7 +15,7 @@ use Rattle.numbers.proofs.Laws.{by_cases, at_zeros}
 use Rattle.calendar.specs.Calendar.{is_month, open_hours}
 use Rattle.calendar.proofs.Laws.{limits, days_high, month_hours_lem}
 use Rattle.store.specs.Store.{as_row, with_hours, without_hours}
-use Rattle.store.proofs.Laws.{at_row, length_row, length-put, at-put-before, at-put-in, at-put-after}
+use Rattle.store.proofs.Laws.{at_row, length_row, length_put, at_put_before, at_put_in, at_put_after}
 use Rattle.rules.specs.Calls.{Opening, Call, billing_hours, control_hours, billing_volume, control_volume, neighbour, failure, admission, denial}
 use Rattle.rules.specs.Calls.{permission, closing}
 use Rattle.rules.specs.Rules.{rules, becomes_past}
@@ -43,19 +43,19 @@ module _ (r : ℕ) (hs store : List ℕ) (size : length store ≡ 10416) (row : 
   own_row : (used : ℕ) → length hs ≤ used → ZeroFrom (with_hours r hs store) r used
   own_row used l h m n =
       let e : 744 * r + h - 744 * r ≡ h = omega arith in
-      at-put-in r (as_row hs) store size row (length_row hs long) (744 * r + h) (omega arith) (omega arith)
+      at_put_in r (as_row hs) store size row (length_row hs long) (744 * r + h) (omega arith) (omega arith)
       ∙ rw e (at_row hs h ∙ get_or-eq_default hs 0 {n = h} (omega arith))
 
   other_row : (q used : ℕ) → (q < r) ⊎ (r < q) → ZeroFrom store q used → ZeroFrom (with_hours r hs store) q used
   other_row q used other zero h m n =
       ⊎_elim
-      (λ o. at-put-before r (as_row hs) store size row (length_row hs long) (744 * q + h) (omega arith))
-      (λ o. at-put-after r (as_row hs) store size row (length_row hs long) (744 * q + h) (omega arith))
+      (λ o. at_put_before r (as_row hs) store size row (length_row hs long) (744 * q + h) (omega arith))
+      (λ o. at_put_after r (as_row hs) store size row (length_row hs long) (744 * q + h) (omega arith))
       other
       ∙ zero h m n
 
-  size-after : length (with_hours r hs store) ≡ 10416
-  size-after = length-put r (as_row hs) store size row (length_row hs long)
+  size_after : length (with_hours r hs store) ≡ 10416
+  size_after = length_put r (as_row hs) store size row (length_row hs long)
 
 -- a discarded reading
 spare_discarded : (s : State) → length s.store ≡ 10416 → Unused s → Unused (discarded s)
@@ -164,9 +164,9 @@ spare_closing s marks buffer f u t =
     let filed : List ℕ = rows_after (becomes_past out) out.hours d s.store in
     let size : length filed ≡ 10416 =
     by_cases (becomes_past out)
-    (λ y. rw y (size-after (row_of d) out.hours s.store f.words (omega (arith, row_few d m)) short))
+    (λ y. rw y (size_after (row_of d) out.hours s.store f.words (omega (arith, row_few d m)) short))
     (λ n. rw n f.words) in
-    let size' = size-after 12 [] filed size (lit≤ tt) (lit≤ tt) in
+    let size' = size_after 12 [] filed size (lit≤ tt) (lit≤ tt) in
     let months : (k : ℕ) → k < 12 → ZeroFrom filed k (month_used (past_after (becomes_past out) s.point.past d).years k) =
     λ k l.
     by_cases (becomes_past out)

@@ -142,17 +142,17 @@ compared_is r store marks p past =
 module _ {r : Record} {store marks buffer : List ℕ} (k : Known r store marks buffer) {p : PastMonth} (past : PastFound r p) {survey : Survey}
     (e : survey ≡ survey_of marks)
     {n : ℕ} (f : n ≡ counted_of r.service.run r.service.denials) where
-  pub compared-due : is_due r p n survey.peaks ≡ true → {v t c : ℕ} {after : List ℕ}
+  pub compared_due : is_due r p n survey.peaks ≡ true → {v t c : ℕ} {after : List ℕ}
       → v ≡ r.readings.control.volume.0 - (inputs (state r store) marks).neighbour
       → t ≡ open_hours r.date → after ≡ as_row (shares v (stretched (row_part store p.row p.hours) t)) → c ≡ capacity_sum marks after
       → c ≡ compared_in (inputs (state r store) marks)
   unfolding inputs
-  compared-due due volume hours filled total =
+  compared_due due volume hours filled total =
       rw (compared_is r store marks p past, ← f, ← peaks_are k, ← e, due, total, filled, volume, hours) (capacity_row marks _)
 
-  pub compared-not : is_due r p n survey.peaks ≡ false → 0 ≡ compared_in (inputs (state r store) marks)
+  pub compared_not : is_due r p n survey.peaks ≡ false → 0 ≡ compared_in (inputs (state r store) marks)
   unfolding inputs
-  compared-not not = rw (compared_is r store marks p past, ← f, ← peaks_are k, ← e, not)
+  compared_not not = rw (compared_is r store marks p past, ← f, ← peaks_are k, ← e, not)
 
 -- GROUND 6 IS CHOSEN exactly where A × d < n × C', with A of the reasons' reading, N, n and P
 abbrev pub six_by : Inputs → ℕ → ℕ → Bool

@@ -12,13 +12,13 @@ use Rattle.numbers.specs.Lists.{tab, sum, at, none_above}
 use Rattle.numbers.proofs.Laws.{by_cases, length_tab, at_tab, sum_most, cond_most, sum_at, none_above_at, none_above_from}
 use Rattle.units.specs.Volumes.{greatest_month_volume}
 use Rattle.sharing.specs.Shares.{ones, one, every, shares, past_at, stretched}
-use Rattle.sharing.proofs.Rule.{length-shares, sum-shares, near-shares}
+use Rattle.sharing.proofs.Rule.{length_shares, sum_shares, near_shares}
 use Rattle.power.specs.Power.{formula}
 use Rattle.power.proofs.Laws.{formula_most}
 use Rattle.marks.specs.Marks.{peak_at, peak_count}
 use Rattle.marks.specs.Peak.{peak_rule}
 use Rattle.marks.proofs.Laws.{peaks_most}
-use Rattle.marks.proofs.Rule.{sum_peak_rule, length_peak_rule, peak_rule_most, peak-near, other-near}
+use Rattle.marks.proofs.Rule.{sum_peak_rule, length_peak_rule, peak_rule_most, peak_near, other_near}
 use Rattle.contract.specs.Contract.{power_of}
 use Rattle.rules.specs.Rules.{Measured, missing, hourly, whole, PastHours, no_past_hours, past_hours, Inputs, hours_in, point_power, as_read}
 use Rattle.rules.specs.Rules.{by_weights, by_peaks, evenly, by_contract, on_past, ground_six_in, on_control_past, on_control, on_billing, rules}
@@ -50,10 +50,10 @@ unfolding by_weights becomes_past
 by_weights_lem g v t ws other e any l =
     let hours : 0 < length ws = omega arith in
     record {
-      long = length-shares v every ws ∙ e;
-      sums = sum-shares v every ws hours;
+      long = length_shares v every ws ∙ e;
+      sums = sum_shares v every ws hours;
       near = λ h i.
-          let n = near-shares v every ws hours h (omega arith) in
+          let n = near_shares v every ws hours h (omega arith) in
           record { below = n.below; above = n.above };
       most = l;
       small = λ y. let late : becomes_past (by_weights g v ws) ≡ false = other in absurd (true≢false (sym y ∙ late));
@@ -61,11 +61,11 @@ by_weights_lem g v t ws other e any l =
 
 -- a month of whole days
 module _ (i : Inputs) (fit : InputsFit i) where
-  long-month : 0 < hours_in i
-  long-month = omega (arith, fit.whole_days, fit.some)
+  long_month : 0 < hours_in i
+  long_month = omega (arith, fit.whole_days, fit.some)
 
-  short-month : hours_in i ≤ 744
-  short-month = omega (arith, fit.whole_days, fit.few)
+  short_month : hours_in i ≤ 744
+  short_month = omega (arith, fit.whole_days, fit.few)
 
   -- P is at most 1,000,000
   power_small : point_power i ≤ 1000000
@@ -80,22 +80,22 @@ module _ (i : Inputs) (fit : InputsFit i) where
   rest = omega (arith, fit.marks, fit.whole_days, fit.some, peaks_most i.marks fit.days (fit.marks ∙ fit.whole_days) fit.not_crowded)
 
   -- BY THE PEAK RULE
-  by-peaks : (g v : ℕ) → v ≤ hours_in i * 1000000 → Right (hours_in i) (by_peaks g i v)
+  by_peaks_lem : (g v : ℕ) → v ≤ hours_in i * 1000000 → Right (hours_in i) (by_peaks g i v)
   unfolding by_peaks
-  by-peaks g v l =
+  by_peaks_lem g v l =
       let p = point_power i in
       let ms = i.marks in
       record {
         long = length_peak_rule v p ms ∙ fit.marks;
-        sums = sum_peak_rule v p ms (omega (arith, fit.marks, long-month));
+        sums = sum_peak_rule v p ms (omega (arith, fit.marks, long_month));
         near = λ h m.
             let m' : h < length ms = omega (arith, fit.marks) in
             by_cases (peak_at ms h)
-            (λ t. let n = peak-near v p ms h m' rest t in rw t (record { below = simp mul-one at n.below; above = simp mul-one at n.above }))
+            (λ t. let n = peak_near v p ms h m' rest t in rw t (record { below = simp mul-one at n.below; above = simp mul-one at n.above }))
             (λ f.
-            let n = rw fit.marks at (other-near v p ms h m' rest f) in
+            let n = rw fit.marks at (other_near v p ms h m' rest f) in
             rw f (record { below = simp mul-one at n.below; above = simp mul-one at n.above }));
-        most = omega (arith, short-month);
+        most = omega (arith, short_month);
         small = λ y.
             none_above_from 3000000 (peak_rule v p ms) λ h m.
             peak_rule_most v p fit.days ms (fit.marks ∙ fit.whole_days) fit.some fit.not_crowded power_small (rw fit.marks l) h
@@ -103,17 +103,17 @@ module _ (i : Inputs) (fit : InputsFit i) where
       }
 
   -- EVENLY, on a ground other than 1 and 2
-  by-even : (g v : ℕ) → eqb g 1 || eqb g 2 ≡ false → v ≤ 1000000 * hours_in i → Right (hours_in i) (evenly g i v)
+  by_even : (g v : ℕ) → eqb g 1 || eqb g 2 ≡ false → v ≤ 1000000 * hours_in i → Right (hours_in i) (evenly g i v)
   unfolding evenly
-  by-even g v other l = by_weights_lem g v (hours_in i) (ones (hours_in i)) other (length_tab (hours_in i) one) long-month (omega (arith, short-month))
+  by_even g v other l = by_weights_lem g v (hours_in i) (ones (hours_in i)) other (length_tab (hours_in i) one) long_month (omega (arith, short_month))
 
   -- GROUNDS 8 AND 9
-  by-contract : Right (hours_in i) (by_contract i)
+  by_contract_lem : Right (hours_in i) (by_contract i)
   unfolding by_contract
-  by-contract =
+  by_contract_lem =
       by_cases (eqb i.contract.basis 3)
-      (λ t. rw t (by-even 9 (formula i.contract.cable (hours_in i)) refl (formula_most i.contract.cable (hours_in i) (fit.cable t))))
-      (λ f. rw f (by-even 8 (hours_in i * point_power i) refl
+      (λ t. rw t (by_even 9 (formula i.contract.cable (hours_in i)) refl (formula_most i.contract.cable (hours_in i) (fit.cable t))))
+      (λ f. rw f (by_even 8 (hours_in i * point_power i) refl
       (omega (arith, mul_comm (hours_in i) (point_power i), mul-le-mul_left (hours_in i) power_small, mul_comm (hours_in i) 1000000))))
 
   -- the past of a month
@@ -124,51 +124,51 @@ module _ (i : Inputs) (fit : InputsFit i) where
       rw (at_tab (hours_in i) (past_at hs) h (rw (length_tab (hours_in i) (past_at hs)) at l))
       (cond_most (ltb h (length hs)) (none_above_at 3000000 hs e h) (none_above_at 3000000 hs e (h - 168)))
 
-  past-long : (hs : List ℕ) → length (stretched hs (hours_in i)) ≡ hours_in i
+  past_long : (hs : List ℕ) → length (stretched hs (hours_in i)) ≡ hours_in i
   unfolding stretched
-  past-long hs = length_tab (hours_in i) (past_at hs)
+  past_long hs = length_tab (hours_in i) (past_at hs)
 
   -- GROUND 7, else 8 and 9
-  on-past : (p : PastHours) → PastHoursFit p → Right (hours_in i) (on_past i p)
+  on_past_lem : (p : PastHours) → PastHoursFit p → Right (hours_in i) (on_past i p)
   unfolding on_past
-  on-past no_past_hours f = by-contract
-  on-past (past_hours hs) f =
+  on_past_lem no_past_hours f = by_contract_lem
+  on_past_lem (past_hours hs) f =
       by_cases (leb i.counted 2)
-      (λ t. rw t (as_read_lem 7 3000000 (hours_in i) (stretched hs (hours_in i)) (past-long hs) short-month (lit≤ tt) (past_small hs f)))
-      (λ g. rw g by-contract)
+      (λ t. rw t (as_read_lem 7 3000000 (hours_in i) (stretched hs (hours_in i)) (past_long hs) short_month (lit≤ tt) (past_small hs f)))
+      (λ g. rw g by_contract_lem)
 
   -- GROUNDS 4 TO 6
-  on-control-past : (v : ℕ) (p : PastHours) → v ≤ hours_in i * 1000000 → Right (hours_in i) (on_control_past i v p)
+  on_control_past_lem : (v : ℕ) (p : PastHours) → v ≤ hours_in i * 1000000 → Right (hours_in i) (on_control_past i v p)
   unfolding on_control_past
-  on-control-past v no_past_hours l = by-peaks 5 v l
-  on-control-past v (past_hours hs) l =
-      let most : v ≤ greatest_month_volume = omega (arith, short-month) in
+  on_control_past_lem v no_past_hours l = by_peaks_lem 5 v l
+  on_control_past_lem v (past_hours hs) l =
+      let most : v ≤ greatest_month_volume = omega (arith, short_month) in
       by_cases (leb i.counted 2)
-      (λ t. rw t (by_weights_lem 4 v (hours_in i) (stretched hs (hours_in i)) refl (past-long hs) long-month most))
+      (λ t. rw t (by_weights_lem 4 v (hours_in i) (stretched hs (hours_in i)) refl (past_long hs) long_month most))
       (λ f.
       rw f
       (by_cases (ground_six_in i v (shares v (stretched hs (hours_in i))))
-      (λ t. rw t (by_weights_lem 6 v (hours_in i) (stretched hs (hours_in i)) refl (past-long hs) long-month most))
-      (λ g. rw g (by-peaks 5 v l))))
+      (λ t. rw t (by_weights_lem 6 v (hours_in i) (stretched hs (hours_in i)) refl (past_long hs) long_month most))
+      (λ g. rw g (by_peaks_lem 5 v l))))
 
   -- GROUNDS 3 TO 9
-  on-control : (m : Measured) → MeasuredFits (hours_in i) m → Right (hours_in i) (on_control i m)
+  on_control_lem : (m : Measured) → MeasuredFits (hours_in i) m → Right (hours_in i) (on_control i m)
   unfolding on_control
-  on-control missing f = on-past i.past fit.past
-  on-control (hourly hs) f = as_read_lem 3 1000000 (hours_in i) hs f.long short-month (lit≤ tt) f.small
-  on-control (whole k) f = on-control-past (k - i.neighbour) i.past (omega arith)
+  on_control_lem missing f = on_past_lem i.past fit.past
+  on_control_lem (hourly hs) f = as_read_lem 3 1000000 (hours_in i) hs f.long short_month (lit≤ tt) f.small
+  on_control_lem (whole k) f = on_control_past_lem (k - i.neighbour) i.past (omega arith)
 
   -- GROUNDS 1 TO 9
-  on-billing : (m : Measured) → MeasuredFits (hours_in i) m → Right (hours_in i) (on_billing i m)
+  on_billing_lem : (m : Measured) → MeasuredFits (hours_in i) m → Right (hours_in i) (on_billing i m)
   unfolding on_billing
-  on-billing missing f = on-control i.control fit.control
-  on-billing (hourly hs) f = as_read_lem 1 1000000 (hours_in i) hs f.long short-month (lit≤ tt) f.small
-  on-billing (whole b) f = by-peaks 2 (b - i.neighbour) (omega arith)
+  on_billing_lem missing f = on_control_lem i.control fit.control
+  on_billing_lem (hourly hs) f = as_read_lem 1 1000000 (hours_in i) hs f.long short_month (lit≤ tt) f.small
+  on_billing_lem (whole b) f = by_peaks_lem 2 (b - i.neighbour) (omega arith)
 
 -- THE RULES ARE RIGHT
 pub rules_right : (i : Inputs) → InputsFit i → Right (hours_in i) (rules i)
 unfolding rules
-rules_right i fit = on-billing i fit i.billing fit.billing
+rules_right i fit = on_billing_lem i fit i.billing fit.billing
 
 -- A MONTH BECOMES THE PAST just where it is not missed
 contract_late : (i : Inputs) → becomes_past (by_contract i) ≡ false

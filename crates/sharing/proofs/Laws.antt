@@ -57,25 +57,25 @@ module _ (v n : ℕ) (w : ℕ → ℕ) (some : 0 < sum_to w n) where
   pub up_to_up : (h : ℕ) → up_to v n w h ≤ up_to v n w (suc h)
   up_to_up h = portion_up v (sum_to w h) (w h) (sum_to w n) some
 
-  pub sum-share : sum_to (share v n w) n ≡ v
-  sum-share =
+  pub sum_share : sum_to (share v n w) n ≡ v
+  sum_share =
       omega (arith, telescope (up_to v n w) up_to_up n, portion_none v (sum_to w n), portion_all v (sum_to w n) some)
 
-  pub sum-spread : sum (spread v n w) ≡ v
+  pub sum_spread : sum (spread v n w) ≡ v
   unfolding spread
-  sum-spread = sum_tab n (share v n w) ∙ sum-share
+  sum_spread = sum_tab n (share v n w) ∙ sum_share
 
-  pub near-share : (h : ℕ) → Near (share v n w h) v (w h) (sum_to w n)
-  near-share h = portion_near v (sum_to w h) (w h) (sum_to w n) some
+  pub near_share : (h : ℕ) → Near (share v n w h) v (w h) (sum_to w n)
+  near_share h = portion_near v (sum_to w h) (w h) (sum_to w n) some
 
   -- no share above k where no exact share is
-  pub share-most : (h k : ℕ) → v * w h ≤ k * sum_to w n → share v n w h ≤ k
-  share-most h k l =
+  pub share_most : (h k : ℕ) → v * w h ≤ k * sum_to w n → share v n w h ≤ k
+  share_most h k l =
       elim (dec_lt k (share v n w h)) [
         | yes g ↦ absurd
             (omega (
               arith,
-              (near-share h).below,
+              (near_share h).below,
               add-mul (suc k) 0 (sum_to w n),
               mul-le-mul_left (sum_to w n) g,
               mul_comm (sum_to w n) (suc k),
@@ -85,8 +85,8 @@ module _ (v n : ℕ) (w : ℕ → ℕ) (some : 0 < sum_to w n) where
         | no f ↦ omega arith
       ]
 
-  pub share-whole : (h : ℕ) → h < n → share v n w h ≤ v
-  share-whole h l = omega (arith, portion_most v (sum_to w (suc h)) (sum_to w n) (sum_up w l))
+  pub share_whole : (h : ℕ) → h < n → share v n w h ≤ v
+  share_whole h l = omega (arith, portion_most v (sum_to w (suc h)) (sum_to w n) (sum_up w l))
 
 pub length_spread : (v n : ℕ) (w : ℕ → ℕ) → length (spread v n w) ≡ n
 unfolding spread

@@ -22,15 +22,15 @@ module _ {v s : ℕ} {ws : List ℕ} {place : ℕ} (p : Placed v s ws place) whe
   weight : ℕ → ℕ
   weight = taken (length ws) every (at ws)
 
-  first-is : {h a : ℕ} → First s ws h a → a ≡ sum_to weight h
+  first_is : {h a : ℕ} → First s ws h a → a ≡ sum_to weight h
   unfolding weight
-  first-is {h} f = f.is ∙ rw (p.sum, taken_every (length ws) (at ws) h)
+  first_is {h} f = f.is ∙ rw (p.sum, taken_every (length ws) (at ws) h)
 
   pub first_fits : {h a whole : ℕ} → First s ws h a → First s ws (length ws) whole → h ≤ length ws → QuotientFits v a whole
   unfolding weight
   first_fits {h} {a} {whole} f g l = record {
-    some = rw (first-is g) (taken_some (length ws) every (at ws) (omega (arith, p.inside)));
-    part = rw (first-is f, first-is g) (sum_up weight l);
+    some = rw (first_is g) (taken_some (length ws) every (at ws) (omega (arith, p.inside)));
+    part = rw (first_is f, first_is g) (sum_up weight l);
     volume = p.volume;
     weights = rw (g.is, ← p.sum) (cond_most (eqb s 0) (omega (arith, p.long)) p.weights);
   }
@@ -39,9 +39,9 @@ module _ {v s : ℕ} {ws : List ℕ} {place : ℕ} (p : Placed v s ws place) whe
     pub place_up : portion v before whole ≤ portion v after whole
     unfolding weight
     place_up =
-        rw (first-is f, first-is g, add-one)
+        rw (first_is f, first_is g, add-one)
         (portion_up v (sum_to weight place) (weight place) whole (first_fits f i (omega (arith, p.inside))).some)
 
     pub place_is : portion v after whole - portion v before whole ≡ at (shares v ws) place
     unfolding weight shares_over
-    place_is = rw (at_spread v (length ws) (taken (length ws) every (at ws)) place p.inside, first-is f, first-is g, first-is i, add-one)
+    place_is = rw (at_spread v (length ws) (taken (length ws) every (at ws)) place p.inside, first_is f, first_is g, first_is i, add-one)

@@ -15,7 +15,7 @@ use Rattle.units.specs.Volumes.{greatest_volume_read}
 use Rattle.sharing.specs.Shares.{one, others, within, or_weights, taken, share, spread, shares_over, apart_at, shares_apart, shares, every}
 use Rattle.sharing.specs.Shares.{past_at, month_fits, weights_fit, share_in, Shared}
 use Rattle.sharing.specs.Underway.{MonthFits}
-use Rattle.sharing.proofs.Laws.{Near, sum-spread, sum-share, near-share, share-whole, length_spread, at_spread, share_same, spread_same}
+use Rattle.sharing.proofs.Laws.{Near, sum_spread, sum_share, near_share, share_whole, length_spread, at_spread, share_same, spread_same}
 
 -- of two kinds of weights, the sum is that of the kind that counts
 or_sum : (n : ℕ) (w u : ℕ → ℕ) → sum_to (or_weights n w u) n ≡ cond (eqb (sum_to w n) 0) (sum_to u n) (sum_to w n)
@@ -48,23 +48,23 @@ taken_some n chosen w p = rw (taken_sum n chosen w) (outer (eqb (sum_to (within 
 
 module _ (v : ℕ) (chosen : ℕ → Bool) (ws : List ℕ) where
   -- law: as many shares as weights
-  pub length-shares : length (shares_over v chosen ws) ≡ length ws
+  pub length_shares : length (shares_over v chosen ws) ≡ length ws
   unfolding shares_over
-  length-shares = length_spread v (length ws) _
+  length_shares = length_spread v (length ws) _
 
   module _ (some : 0 < length ws) where
     -- law: the shares sum to the volume
-    pub sum-shares : sum (shares_over v chosen ws) ≡ v
+    pub sum_shares : sum (shares_over v chosen ws) ≡ v
     unfolding shares_over
-    sum-shares = sum-spread v (length ws) _ (taken_some (length ws) chosen (at ws) some)
+    sum_shares = sum_spread v (length ws) _ (taken_some (length ws) chosen (at ws) some)
 
     -- law: each is less than one kWh from its exact share
-    pub near-shares : (h : ℕ) → h < length ws
+    pub near_shares : (h : ℕ) → h < length ws
         → Near (at (shares_over v chosen ws) h) v (taken (length ws) chosen (at ws) h) (sum_to (taken (length ws) chosen (at ws)) (length ws))
     unfolding shares_over
-    near-shares h l =
+    near_shares h l =
         rw (at_spread v (length ws) (taken (length ws) chosen (at ws)) h l)
-        (near-share v (length ws) (taken (length ws) chosen (at ws)) (taken_some (length ws) chosen (at ws) some) h)
+        (near_share v (length ws) (taken (length ws) chosen (at ws)) (taken_some (length ws) chosen (at ws) some) h)
 
 -- law: no place gets more than what is shared
 pub shares_most : (v : ℕ) (ws : List ℕ) (place : ℕ) → at (shares v ws) place ≤ v
@@ -73,8 +73,8 @@ shares_most v ws place =
     let n = length ws in
     let w : ℕ → ℕ = taken n every (at ws) in
     elim (dec_lt place n) [
-      | yes l ↦ rw (at_spread v n w place l) (share-whole v n w (taken_some n every (at ws) (omega arith)) place l)
-      | no f ↦ rw (get_or-eq_default (shares v ws) 0 {n = place} (rw length-shares (omega arith))) (omega arith)
+      | yes l ↦ rw (at_spread v n w place l) (share_whole v n w (taken_some n every (at ws) (omega arith)) place l)
+      | no f ↦ rw (get_or-eq_default (shares v ws) 0 {n = place} (rw length_shares (omega arith))) (omega arith)
     ]
 
 pub share_in_most : (v : ℕ) (ws : List ℕ) (place : ℕ) → share_in v ws place ≤ v
@@ -170,8 +170,8 @@ sum_apart a b chosen n some =
     ∙ omega (
       arith,
       sum_both f g n,
-      sum-share a n (taken n chosen one) (taken_some n chosen one some),
-      sum-share b n (taken n (others chosen) one) (taken_some n (others chosen) one some),
+      sum_share a n (taken n chosen one) (taken_some n chosen one some),
+      sum_share b n (taken n (others chosen) one) (taken_some n (others chosen) one some),
     )
 
 pub apart_same : (a b n : ℕ) (f g : ℕ → Bool) → ((h : ℕ) → h < n → f h ≡ g h) → shares_apart a b f n ≡ shares_apart a b g n

@@ -48,8 +48,8 @@ pub others_count : {chosen : List Bool} {k : ℕ} → Counts chosen k → Others
 others_count {chosen} counts = record { is = omega (arith, counts.is, all_hours (chosen_at chosen) (length chosen)) }
 
 module _ {v n : ℕ} {w : ℕ → ℕ} {p : Progress} {h : ℕ} (u : Underway v n w p h) where
-  pub under-ready : {x : ℕ} → h < n → x ≡ w h → Ready p x
-  under-ready l e = rw (u.is, e) record {
+  pub under_ready : {x : ℕ} → h < n → x ≡ w h → Ready p x
+  under_ready l e = rw (u.is, e) record {
     quotient = record { some = u.some; part = sum_up w l; volume = u.volume; weights = u.weights };
     done = refl;
   }
@@ -59,18 +59,18 @@ module _ {v n : ℕ} {w : ℕ → ℕ} {p : Progress} {h : ℕ} (u : Underway v 
     pub under_more : Underway v n w q (h + 1)
     under_more = record { is = f ∙ rw (u.is, e, add-one); some = u.some; volume = u.volume; weights = u.weights }
 
-    pub under-gain : h < n → Gains p q
-    under-gain l = record {
+    pub under_gain : h < n → Gains p q
+    under_gain l = record {
       up = rw (under_more.is, u.is, add-one) (up_to_up v n w u.some h);
       small = rw (under_more.is, add-one) (le_trans (portion_most v _ _ (sum_up w l)) u.volume);
     }
 
-    pub under-share : {g : ℕ} → Gained p q g → g ≡ share v n w h
-    under-share g = g.is ∙ rw (under_more.is, u.is, add-one)
+    pub under_share : {g : ℕ} → Gained p q g → g ≡ share v n w h
+    under_share g = g.is ∙ rw (under_more.is, u.is, add-one)
 
-    pub filled-share : {g : ℕ} {d l : List ℕ} → Gained p q g → h < n → n ≤ length d → Filled (share v n w) d l h
+    pub filled_share : {g : ℕ} {d l : List ℕ} → Gained p q g → h < n → n ≤ length d → Filled (share v n w) d l h
         → Filled (share v n w) d (set l h g) (h + 1)
-    filled-share g lt le filled = filled_more filled (le_trans lt le) (under-share g)
+    filled_share g lt le filled = filled_more filled (le_trans lt le) (under_share g)
 
 -- a turn of the loop over two sharings apart
 pub filled_apart : {h i j x y : ℕ} {d l : List ℕ} {p p' q q' : Progress} (a b n : ℕ) (chosen : ℕ → Bool)
@@ -80,7 +80,7 @@ pub filled_apart : {h i j x y : ℕ} {d l : List ℕ} {p p' q q' : Progress} (a 
     → Filled (apart_at a b chosen n) d (set l h (i + j)) (h + 1)
 unfolding apart_at
 filled_apart a b n chosen filled lt le u e f g v o r k =
-    filled_more filled (le_trans lt le) (ap₂ (λ (s t : ℕ). s + t) (under-share u e f g) (under-share v o r k))
+    filled_more filled (le_trans lt le) (ap₂ (λ (s t : ℕ). s + t) (under_share u e f g) (under_share v o r k))
 
 -- the end of a loop over a buffer that was cleared
 pub shared : {v whole n : ℕ} {p : Progress} {d l : List ℕ} (m : ℕ) (chosen : ℕ → Bool) (w : ℕ → ℕ)

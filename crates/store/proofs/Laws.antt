@@ -102,21 +102,21 @@ module _ (r : ℕ) (xs store : List ℕ) (size : length store ≡ 10416) (row : 
   front : length (take (744 * r) store) ≡ 744 * r
   front = length-take-le (744 * r) store (omega arith)
 
-  pub length-put : length (put_row r xs store) ≡ 10416
+  pub length_put : length (put_row r xs store) ≡ 10416
   unfolding put_row
-  length-put = simp (length-append, length-take, length-drop) (omega arith)
+  length_put = simp (length-append, length-take, length-drop) (omega arith)
 
-  pub at-put-before : (k : ℕ) → k < 744 * r → at (put_row r xs store) k ≡ at store k
+  pub at_put_before : (k : ℕ) → k < 744 * r → at (put_row r xs store) k ≡ at store k
   unfolding put_row
-  at-put-before k l = get_or-append (take (744 * r) store) _ 0 k (rw front l) ∙ get_or-take (744 * r) store k 0 l
+  at_put_before k l = get_or-append (take (744 * r) store) _ 0 k (rw front l) ∙ get_or-take (744 * r) store k 0 l
 
   -- from the row's start on
   from_start : (j : ℕ) → at (put_row r xs store) (744 * r + j) ≡ at (xs ++ drop 744 (drop (744 * r) store)) j
   unfolding put_row
   from_start j = rw front at (get_or-append-add (take (744 * r) store) (xs ++ drop 744 (drop (744 * r) store)) j 0)
 
-  pub at-put-in : (k : ℕ) → 744 * r ≤ k → k < 744 * r + 744 → at (put_row r xs store) k ≡ at xs (k - 744 * r)
-  at-put-in k l m =
+  pub at_put_in : (k : ℕ) → 744 * r ≤ k → k < 744 * r + 744 → at (put_row r xs store) k ≡ at xs (k - 744 * r)
+  at_put_in k l m =
       let e : 744 * r + (k - 744 * r) ≡ k = omega arith in
       rw e at (from_start (k - 744 * r)) ∙ get_or-append xs _ 0 (k - 744 * r) (omega arith)
 
@@ -128,30 +128,30 @@ module _ (r : ℕ) (xs store : List ℕ) (size : length store ≡ 10416) (row : 
       ∙ get_or-drop 744 (drop (744 * r) store) j 0
       ∙ get_or-drop (744 * r) store (744 + j) 0
 
-  pub at-put-after : (k : ℕ) → 744 * r + 744 ≤ k → at (put_row r xs store) k ≡ at store k
-  at-put-after k l = let e : 744 * r + (744 + (k - (744 * r + 744))) ≡ k = omega arith in rw e at (from_end (k - (744 * r + 744)))
+  pub at_put_after : (k : ℕ) → 744 * r + 744 ≤ k → at (put_row r xs store) k ≡ at store k
+  at_put_after k l = let e : 744 * r + (744 + (k - (744 * r + 744))) ≡ k = omega arith in rw e at (from_end (k - (744 * r + 744)))
 
   -- no word above m where the store had none there and xs has none
-  put-most : (m k : ℕ) → at store k ≤ m → ((j : ℕ) → at xs j ≤ m) → at (put_row r xs store) k ≤ m
-  put-most m k p q =
+  put_most : (m k : ℕ) → at store k ≤ m → ((j : ℕ) → at xs j ≤ m) → at (put_row r xs store) k ≤ m
+  put_most m k p q =
       elim (dec_lt k (744 * r)) [
-        | yes l ↦ rw (at-put-before k l) p
+        | yes l ↦ rw (at_put_before k l) p
         | no f ↦
             elim (dec_lt k (744 * r + 744)) [
-              | yes l ↦ rw (at-put-in k (omega arith) l) (q (k - 744 * r))
-              | no g ↦ rw (at-put-after k (omega arith)) p
+              | yes l ↦ rw (at_put_in k (omega arith) l) (q (k - 744 * r))
+              | no g ↦ rw (at_put_after k (omega arith)) p
             ]
       ]
 
   -- row r is xs, and any other row is as it was
-  pub row-put-same : take 744 (drop (744 * r) (put_row r xs store)) ≡ xs
+  pub row_put_same : take 744 (drop (744 * r) (put_row r xs store)) ≡ xs
   unfolding put_row
-  row-put-same = rw (drop_at (take (744 * r) store) _ (744 * r) front) (take_at xs _ 744 long)
+  row_put_same = rw (drop_at (take (744 * r) store) _ (744 * r) front) (take_at xs _ 744 long)
 
-  pub row-put-other : (q : ℕ) → (q < r) ⊎ (r < q) → take 744 (drop (744 * q) (put_row r xs store)) ≡ take 744 (drop (744 * q) store)
-  row-put-other q other =
-      part_same (744 * q) 744 (put_row r xs store) store (length-put ∙ sym size)
-      (λ k l m. ⊎_elim (λ o. at-put-before k (omega arith)) (λ o. at-put-after k (omega arith)) other)
+  pub row_put_other : (q : ℕ) → (q < r) ⊎ (r < q) → take 744 (drop (744 * q) (put_row r xs store)) ≡ take 744 (drop (744 * q) store)
+  row_put_other q other =
+      part_same (744 * q) 744 (put_row r xs store) store (length_put ∙ sym size)
+      (λ k l m. ⊎_elim (λ o. at_put_before k (omega arith)) (λ o. at_put_after k (omega arith)) other)
 
 -- a store fits where both of its parts do, the first of 8,928 words and the second of 1,488
 pub fits_parts : (store : List ℕ) → length store ≡ 10416
@@ -161,18 +161,18 @@ fits_parts store size = rw (take_all 1488 (drop 8928 store) (omega (arith, lengt
 
 -- a store that fits has no word above 3,000,000, and none above 1,000,000 from row 12 on
 module _ (store : List ℕ) (fits : store_fits store ≡ true) where
-  pub fits-month-at : (k : ℕ) → 8928 ≤ k → at store k ≤ 1000000
+  pub fits_month_at : (k : ℕ) → 8928 ≤ k → at store k ≤ 1000000
   unfolding store_fits
-  fits-month-at k l =
+  fits_month_at k l =
       let e : 8928 + (k - 8928) ≡ k = omega arith in
       rw (get_or-drop 8928 store (k - 8928) 0, e) at (none_above_at 1000000 (drop 8928 store) (both (none_above 3000000 (take 8928 store)) _ fits).1 (k - 8928))
 
-  pub fits-at : (k : ℕ) → at store k ≤ 3000000
+  pub fits_at : (k : ℕ) → at store k ≤ 3000000
   unfolding store_fits
-  fits-at k =
+  fits_at k =
       elim (dec_lt k 8928) [
         | yes l ↦ rw (get_or-take 8928 store k 0 l) at (none_above_at 3000000 (take 8928 store) (both _ _ fits).0 k)
-        | no f ↦ omega (arith, fits-month-at k (omega arith))
+        | no f ↦ omega (arith, fits_month_at k (omega arith))
       ]
 
 -- and one that has none fits
@@ -198,20 +198,20 @@ cleared store after size e = rw (eq-eqb (length store) 10416 size) (rw size at e
 
 -- a store that fits still does with hours of this month in row 12 or 13, and with hours of a past in a row before them
 module _ (r : ℕ) (hours store : List ℕ) (size : length store ≡ 10416) (fits : store_fits store ≡ true) (long : length hours ≤ 744) where
-  most-row : (m : ℕ) → none_above m hours ≡ true → (j : ℕ) → at (as_row hours) j ≤ m
-  most-row m e j = rw at_row (none_above_at m hours e j)
+  most_row : (m : ℕ) → none_above m hours ≡ true → (j : ℕ) → at (as_row hours) j ≤ m
+  most_row m e j = rw at_row (none_above_at m hours e j)
 
-  pub put-fits-month : 12 ≤ r → r ≤ 13 → none_above 1000000 hours ≡ true → store_fits (put_row r (as_row hours) store) ≡ true
-  put-fits-month low row e =
+  pub put_fits_month : 12 ≤ r → r ≤ 13 → none_above 1000000 hours ≡ true → store_fits (put_row r (as_row hours) store) ≡ true
+  put_fits_month low row e =
       fits_from (put_row r (as_row hours) store)
-      (λ k l. rw (at-put-before r (as_row hours) store size row (length_row hours long) k (omega arith)) (fits-at store fits k))
-      (λ k l. put-most r (as_row hours) store size row (length_row hours long) 1000000 k (fits-month-at store fits k l) (most-row 1000000 e))
+      (λ k l. rw (at_put_before r (as_row hours) store size row (length_row hours long) k (omega arith)) (fits_at store fits k))
+      (λ k l. put_most r (as_row hours) store size row (length_row hours long) 1000000 k (fits_month_at store fits k l) (most_row 1000000 e))
 
-  pub put-fits-past : r ≤ 11 → none_above 3000000 hours ≡ true → store_fits (put_row r (as_row hours) store) ≡ true
-  put-fits-past row e =
+  pub put_fits_past : r ≤ 11 → none_above 3000000 hours ≡ true → store_fits (put_row r (as_row hours) store) ≡ true
+  put_fits_past row e =
       fits_from (put_row r (as_row hours) store)
-      (λ k l. put-most r (as_row hours) store size (omega arith) (length_row hours long) 3000000 k (fits-at store fits k) (most-row 3000000 e))
-      (λ k l. rw (at-put-after r (as_row hours) store size (omega arith) (length_row hours long) k (omega arith)) (fits-month-at store fits k l))
+      (λ k l. put_most r (as_row hours) store size (omega arith) (length_row hours long) 3000000 k (fits_at store fits k) (most_row 3000000 e))
+      (λ k l. rw (at_put_after r (as_row hours) store size (omega arith) (length_row hours long) k (omega arith)) (fits_month_at store fits k l))
 
 -- no word of a part is above the limit where none is from its start on
 none_above_part : (limit a t : ℕ) (xs : List ℕ) → ((k : ℕ) → a ≤ k → at xs k ≤ limit) → none_above limit (take t (drop a xs)) ≡ true
@@ -222,8 +222,8 @@ none_above_part limit a t xs e =
 
 -- so the first t words of a row keep the store's limits
 module _ (r t : ℕ) (store : List ℕ) (fits : store_fits store ≡ true) where
-  pub row-part-fits : none_above 3000000 (take t (drop (744 * r) store)) ≡ true
-  row-part-fits = none_above_part 3000000 (744 * r) t store (λ k l. fits-at store fits k)
+  pub row_part_fits : none_above 3000000 (take t (drop (744 * r) store)) ≡ true
+  row_part_fits = none_above_part 3000000 (744 * r) t store (λ k l. fits_at store fits k)
 
-  pub row-part-fits-month : 12 ≤ r → none_above 1000000 (take t (drop (744 * r) store)) ≡ true
-  row-part-fits-month low = none_above_part 1000000 (744 * r) t store (λ k l. fits-month-at store fits k (omega arith))
+  pub row_part_fits_month : 12 ≤ r → none_above 1000000 (take t (drop (744 * r) store)) ≡ true
+  row_part_fits_month low = none_above_part 1000000 (744 * r) t store (λ k l. fits_month_at store fits k (omega arith))

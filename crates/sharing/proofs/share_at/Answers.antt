@@ -3,7 +3,7 @@ use Rattle.std.proofs.Common.{◌≤◌, length, sym, ◌∙◌}
 use lib.ListN.{get_or-eq_default}
 use borrow.Author.Tests.{le-leb, lt-leb}
 use Rattle.sharing.specs.Shares.{shares, weights_fit, share_in}
-use Rattle.sharing.proofs.Rule.{month_fits_lem, length-shares}
+use Rattle.sharing.proofs.Rule.{month_fits_lem, length_shares}
 use Rattle.sharing.proofs.share_at.Goals as goal
 
 pub at_place-requires : goal.at_place-requires
@@ -30,7 +30,7 @@ returns-then-place-n c =
 pub returns-else-place-n : goal.returns-else-place-n
 unfolding share_in weights_fit
 returns-else-place-n c =
-    let out : length (shares c.args.v c.args.weights.now) ≤ c.args.place = rw length-shares c.if-place-n.false in
+    let out : length (shares c.args.v c.args.weights.now) ≤ c.args.place = rw length_shares c.if-place-n.false in
     rw (
       sym c.month_fits.ensures ∙ c.if-month_fits.true,
       ← c.sum_first-s.ensures,

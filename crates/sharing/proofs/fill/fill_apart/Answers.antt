@@ -1,19 +1,19 @@
 -- A turn of the loop is one hour of both sharings.
 use Rattle.std.proofs.Common.{arith, rules}
-use Rattle.sharing.proofs.Under.{under-ready, under_more, under-gain, filled_apart}
+use Rattle.sharing.proofs.Under.{under_ready, under_more, under_gain, filled_apart}
 use Rattle.sharing.proofs.fill.fill_apart.Goals as goal
 
 pub step-a1-requires : goal.step-a1-requires
-step-a1-requires c = search (under-ready, rules)
+step-a1-requires c = search (under_ready, rules)
 
 pub step-b1-requires : goal.step-b1-requires
-step-b1-requires c = search (under-ready, rules)
+step-b1-requires c = search (under_ready, rules)
 
 pub gain-requires : goal.gain-requires
-gain-requires c = search (under-gain, rules)
+gain-requires c = search (under_gain, rules)
 
 pub gain-requires-in-loop-h : goal.gain-requires-in-loop-h
-gain-requires-in-loop-h c = search (under-gain, rules)
+gain-requires-in-loop-h c = search (under_gain, rules)
 
 pub loop-h-preserved : goal.loop-h-preserved
 loop-h-preserved c = (
