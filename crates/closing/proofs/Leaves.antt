@@ -101,6 +101,12 @@ figures_are u marks t {hours = hours} {c = c} right few found total days e =
     let small : capacity_sum marks u.hours ≤ 4294967295 = omega (arith, capacity_within marks u.hours long, right.sums, right.most) in
     e ∙ rw (same, days, found.ground, found.volume, capacity_uncut (capacity_sum marks u.hours) (days_in marks) small)
 
+-- figures are the record of their parts
+pub figures_whole : (f : Found) (c : Kwh) (d : ℕ) {g : Figures} → g.ground ≡ f.ground → g.volume ≡ f.volume
+    → g.capacity.0 ≡ capacity_in c.0 d → g.sum ≡ c → g.days ≡ d
+    → g ≡ record { ground = f.ground; volume = f.volume; capacity = record { 0 = capacity_in c.0 d }; sum = c; days = d }
+figures_whole f c d a b e s t = rw (← a, ← b, ← e, ← s, ← t)
+
 pub closed_does : (s : State) (marks buffer : List ℕ) {number t : ℕ} → number ≡ refusal s (closing marks buffer) → number ≡ 0
     → Right t (rules (inputs s marks)) → t ≤ 744
     → {f : Found} {hours store : List ℕ} {c : Kwh} {d : ℕ} {g : Figures} {new : Bool} {r : Record} → OutcomeFound (rules (inputs s marks)) f hours

@@ -13,6 +13,7 @@ use store::{clear_row, write_row};
 use units::Kwh;
 
 // Where the month becomes the past: its year in its row, and the latest past month.
+#[tactic(auto, using(calendar::proofs::Laws::limits, crate::proofs::Leaves::years_are))]
 fn past_after(new: bool, p: Past, d: Date) -> Past
     requires { is_month d ≡ true }
     ensures { result ≡ past_after new p d }
@@ -31,6 +32,7 @@ fn past_after(new: bool, p: Past, d: Date) -> Past
 
 // The next month opens, with no readings; the total grows by the volume, and the run is 0 where the month becomes the
 // past and else grows by 1.
+#[tactic(auto, using(calendar::proofs::Laws::next_in_lem))]
 pub(crate) fn point_after(r: Record, new: bool, volume: Kwh) -> Record
     requires { (is_month r.date ≡ true) × (r.service.run ≤ 12000) × (r.total.0 ≤ greatest_total) × (volume.0 ≤ greatest_month_volume) }
     ensures { result ≡ point_after new volume.0 r }
@@ -50,6 +52,7 @@ pub(crate) fn point_after(r: Record, new: bool, volume: Kwh) -> Record
 }
 
 // The hours become their month's row where the month becomes the past.
+#[tactic(auto, using(store::proofs::Laws::written_in_lem))]
 fn keep_hours(store: &mut [u32], new: bool, row: usize, hours: &[u32])
     requires { (length store.old ≡ 10416) × (row ≤ 11) × (length hours.now ≡ 744) }
     ensures { store.new ≡ cond new (with_hours row hours.now store.old) store.old }

@@ -1,5 +1,6 @@
 // The closing of a month (document 01, 'Closing').
 #![tactic(auto)]
+
 ghost use Rattle.std.specs.Prelude.{◌≡◌};
 ghost use Rattle.marks.specs.Marks.{survey_of, capacity_in};
 ghost use Rattle.rules.specs.Calls.Call.{closing};
@@ -19,6 +20,7 @@ use store::store_fits;
 use units::Kwh;
 
 // The number of a closing, 0 where it is accepted. The highest is asked first, so that each lower one goes before it.
+#[tactic(auto, using(crate::proofs::Leaves::number_is))]
 fn closing_refusal(r: Record, store: &[u32], marks: &[u8], survey: Survey, hours: &[u32]) -> u32
     requires { survey ≡ survey_of marks.now }
     ensures { result ≡ refusal (state r store.now) (closing marks.now hours.now) }
@@ -43,7 +45,9 @@ pub fn refuse_closing(r: Record, store: &[u32], marks: &[u8], hours: &[u32]) -> 
 
 // The figures of a closing, with C and d, and capacity from them.
 fn figures_of(found: Found, sum: Kwh, days: u64) -> Figures
-    ensures { result ≡ record { ground = found.ground; volume = found.volume; capacity = record { 0 = capacity_in sum.0 days }; sum = sum; days = days } }
+    ensures found_value { (result.ground ≡ found.ground) × (result.volume ≡ found.volume) }
+    ensures capacity_value { result.capacity.0 ≡ capacity_in sum.0 days }
+    ensures sum_value { (result.sum ≡ sum) × (result.days ≡ days) }
 {
     let volume = found.volume;
     let capacity = capacity(sum, days);
