@@ -14,7 +14,7 @@ use Rattle.calendar.specs.Calendar.{open_hours}
 use Rattle.units.specs.Volumes.{greatest_volume_read}
 use Rattle.sharing.specs.Shares.{ones, every, shares, past_at, stretched}
 use Rattle.store.specs.Store.{row_part}
-use Rattle.sharing.proofs.Rule.{length-shares, sum-shares}
+use Rattle.sharing.proofs.Rule.{length_shares, sum_shares}
 use Rattle.power.specs.Power.{formula, power_in, cable_fits}
 use Rattle.marks.specs.declared.Survey.{Survey}
 use Rattle.marks.specs.Marks.{survey_with, survey_of, capacity_sum}
@@ -43,84 +43,84 @@ neighbour_is g h =
 
 module _ (i : Inputs) {f : Found} {buffer : List ℕ} where
   -- GROUNDS 8 AND 9
-  pub nine-outcome : i.contract.basis ≡ 3 → {t : ℕ} → t ≡ open_hours i.date
+  pub nine_outcome : i.contract.basis ≡ 3 → {t : ℕ} → t ≡ open_hours i.date
       → HoursFound 9 (formula i.contract.cable t) (shares (formula i.contract.cable t) (ones t)) f buffer → OutcomeFound (by_contract i) f buffer
   unfolding by_contract evenly by_weights
-  nine-outcome b e h = rw (eq-eqb i.contract.basis 3 b) (rw e at h)
+  nine_outcome b e h = rw (eq-eqb i.contract.basis 3 b) (rw e at h)
 
-  pub eight-outcome : i.contract.basis ≢ 3 → {t : ℕ} → t ≡ open_hours i.date
+  pub eight_outcome : i.contract.basis ≢ 3 → {t : ℕ} → t ≡ open_hours i.date
       → HoursFound 8 (t * i.contract.power.0) (shares (t * i.contract.power.0) (ones t)) f buffer → OutcomeFound (by_contract i) f buffer
   unfolding by_contract evenly by_weights power_of
-  eight-outcome b e h = rw (ne_eqb i.contract.basis 3 b) (rw e at h)
+  eight_outcome b e h = rw (ne_eqb i.contract.basis 3 b) (rw e at h)
 
   -- GROUND 7, else 8 and 9
-  pub seven-outcome : (hs : List ℕ) → i.past ≡ past_hours hs → i.counted ≤ 2 → {t : ℕ} → t ≡ open_hours i.date
+  pub seven_outcome : (hs : List ℕ) → i.past ≡ past_hours hs → i.counted ≤ 2 → {t : ℕ} → t ≡ open_hours i.date
       → HoursFound 7 (sum (stretched hs t)) (stretched hs t) f buffer → OutcomeFound (on_past i i.past) f buffer
   unfolding on_past as_read
-  seven-outcome hs past few e h = subst (λ (x : PastHours). OutcomeFound (on_past i x) f buffer) (sym past) (rw (le-leb i.counted 2 few) (rw e at h))
+  seven_outcome hs past few e h = subst (λ (x : PastHours). OutcomeFound (on_past i x) f buffer) (sym past) (rw (le-leb i.counted 2 few) (rw e at h))
 
-  pub late-outcome : (hs : List ℕ) → i.past ≡ past_hours hs → 2 < i.counted → OutcomeFound (by_contract i) f buffer
+  pub late_outcome : (hs : List ℕ) → i.past ≡ past_hours hs → 2 < i.counted → OutcomeFound (by_contract i) f buffer
       → OutcomeFound (on_past i i.past) f buffer
   unfolding on_past
-  late-outcome hs past many h = subst (λ (x : PastHours). OutcomeFound (on_past i x) f buffer) (sym past) (rw (lt-leb i.counted 2 many) h)
+  late_outcome hs past many h = subst (λ (x : PastHours). OutcomeFound (on_past i x) f buffer) (sym past) (rw (lt-leb i.counted 2 many) h)
 
-  pub none-outcome : i.past ≡ no_past_hours → OutcomeFound (by_contract i) f buffer → OutcomeFound (on_past i i.past) f buffer
+  pub none_outcome : i.past ≡ no_past_hours → OutcomeFound (by_contract i) f buffer → OutcomeFound (on_past i i.past) f buffer
   unfolding on_past
-  none-outcome past h = subst (λ (x : PastHours). OutcomeFound (on_past i x) f buffer) (sym past) h
+  none_outcome past h = subst (λ (x : PastHours). OutcomeFound (on_past i x) f buffer) (sym past) h
 
   -- GROUNDS 4 TO 6, of the volume v
-  pub five-outcome : (v : ℕ) → i.past ≡ no_past_hours → HoursFound 5 v (peak_rule v (point_power i) i.marks) f buffer
+  pub five_outcome : (v : ℕ) → i.past ≡ no_past_hours → HoursFound 5 v (peak_rule v (point_power i) i.marks) f buffer
       → OutcomeFound (on_control_past i v i.past) f buffer
   unfolding on_control_past by_peaks
-  five-outcome v past h = subst (λ (x : PastHours). OutcomeFound (on_control_past i v x) f buffer) (sym past) h
+  five_outcome v past h = subst (λ (x : PastHours). OutcomeFound (on_control_past i v x) f buffer) (sym past) h
 
-  pub four-outcome : (v : ℕ) (hs : List ℕ) → i.past ≡ past_hours hs → i.counted ≤ 2 → {t : ℕ} → t ≡ open_hours i.date
+  pub four_outcome : (v : ℕ) (hs : List ℕ) → i.past ≡ past_hours hs → i.counted ≤ 2 → {t : ℕ} → t ≡ open_hours i.date
       → HoursFound 4 v (shares v (stretched hs t)) f buffer → OutcomeFound (on_control_past i v i.past) f buffer
   unfolding on_control_past by_weights
-  four-outcome v hs past few e h =
+  four_outcome v hs past few e h =
       subst (λ (x : PastHours). OutcomeFound (on_control_past i v x) f buffer) (sym past) (rw (le-leb i.counted 2 few) (rw e at h))
 
-  pub six-outcome : (v : ℕ) (hs : List ℕ) → i.past ≡ past_hours hs → 2 < i.counted
+  pub six_outcome : (v : ℕ) (hs : List ℕ) → i.past ≡ past_hours hs → 2 < i.counted
       → ground_six_in i v (shares v (stretched hs (open_hours i.date))) ≡ true
       → HoursFound 6 v (shares v (stretched hs (open_hours i.date))) f buffer → OutcomeFound (on_control_past i v i.past) f buffer
   unfolding on_control_past by_weights
-  six-outcome v hs past many fits h =
+  six_outcome v hs past many fits h =
       subst (λ (x : PastHours). OutcomeFound (on_control_past i v x) f buffer) (sym past) (rw (lt-leb i.counted 2 many, fits) h)
 
-  pub later-outcome : (v : ℕ) (hs : List ℕ) → i.past ≡ past_hours hs → 2 < i.counted
+  pub later_outcome : (v : ℕ) (hs : List ℕ) → i.past ≡ past_hours hs → 2 < i.counted
       → ground_six_in i v (shares v (stretched hs (open_hours i.date))) ≡ false
       → HoursFound 5 v (peak_rule v (point_power i) i.marks) f buffer → OutcomeFound (on_control_past i v i.past) f buffer
   unfolding on_control_past by_peaks
-  later-outcome v hs past many not h =
+  later_outcome v hs past many not h =
       subst (λ (x : PastHours). OutcomeFound (on_control_past i v x) f buffer) (sym past) (rw (lt-leb i.counted 2 many, not) h)
 
   -- GROUND 3, else 4 to 9
-  pub three-outcome : (hs : List ℕ) → i.control ≡ hourly hs → HoursFound 3 (sum hs) hs f buffer → OutcomeFound (on_control i i.control) f buffer
+  pub three_outcome : (hs : List ℕ) → i.control ≡ hourly hs → HoursFound 3 (sum hs) hs f buffer → OutcomeFound (on_control i i.control) f buffer
   unfolding on_control as_read
-  three-outcome hs e h = subst (λ (x : Measured). OutcomeFound (on_control i x) f buffer) (sym e) h
+  three_outcome hs e h = subst (λ (x : Measured). OutcomeFound (on_control i x) f buffer) (sym e) h
 
-  pub volume-outcome : (k : ℕ) → i.control ≡ whole k → OutcomeFound (on_control_past i (k - i.neighbour) i.past) f buffer
+  pub volume_outcome : (k : ℕ) → i.control ≡ whole k → OutcomeFound (on_control_past i (k - i.neighbour) i.past) f buffer
       → OutcomeFound (on_control i i.control) f buffer
   unfolding on_control
-  volume-outcome k e h = subst (λ (x : Measured). OutcomeFound (on_control i x) f buffer) (sym e) h
+  volume_outcome k e h = subst (λ (x : Measured). OutcomeFound (on_control i x) f buffer) (sym e) h
 
-  pub past-outcome : i.control ≡ missing → OutcomeFound (on_past i i.past) f buffer → OutcomeFound (on_control i i.control) f buffer
+  pub past_outcome : i.control ≡ missing → OutcomeFound (on_past i i.past) f buffer → OutcomeFound (on_control i i.control) f buffer
   unfolding on_control
-  past-outcome e h = subst (λ (x : Measured). OutcomeFound (on_control i x) f buffer) (sym e) h
+  past_outcome e h = subst (λ (x : Measured). OutcomeFound (on_control i x) f buffer) (sym e) h
 
   -- GROUNDS 1 AND 2, else 3 to 9
-  pub one-outcome : (hs : List ℕ) → i.billing ≡ hourly hs → HoursFound 1 (sum hs) hs f buffer → OutcomeFound (rules i) f buffer
+  pub one_outcome : (hs : List ℕ) → i.billing ≡ hourly hs → HoursFound 1 (sum hs) hs f buffer → OutcomeFound (rules i) f buffer
   unfolding rules on_billing as_read
-  one-outcome hs e h = subst (λ (x : Measured). OutcomeFound (on_billing i x) f buffer) (sym e) h
+  one_outcome hs e h = subst (λ (x : Measured). OutcomeFound (on_billing i x) f buffer) (sym e) h
 
-  pub two-outcome : (b : ℕ) → i.billing ≡ whole b
+  pub two_outcome : (b : ℕ) → i.billing ≡ whole b
       → HoursFound 2 (b - i.neighbour) (peak_rule (b - i.neighbour) (point_power i) i.marks) f buffer → OutcomeFound (rules i) f buffer
   unfolding rules on_billing by_peaks
-  two-outcome b e h = subst (λ (x : Measured). OutcomeFound (on_billing i x) f buffer) (sym e) h
+  two_outcome b e h = subst (λ (x : Measured). OutcomeFound (on_billing i x) f buffer) (sym e) h
 
-  pub control-outcome : i.billing ≡ missing → OutcomeFound (on_control i i.control) f buffer → OutcomeFound (rules i) f buffer
+  pub control_outcome : i.billing ≡ missing → OutcomeFound (on_control i i.control) f buffer → OutcomeFound (rules i) f buffer
   unfolding rules on_billing
-  control-outcome e h = subst (λ (x : Measured). OutcomeFound (on_billing i x) f buffer) (sym e) h
+  control_outcome e h = subst (λ (x : Measured). OutcomeFound (on_billing i x) f buffer) (sym e) h
 
 -- THE INPUTS, as the record tells them
 pub inputs_past : (r : Record) (store marks : List ℕ) (p : PastMonth) → PastFound r p → p.found ≡ true
@@ -176,11 +176,11 @@ six_sum marks hs after v t any few small total filled =
     let ws = tab t (past_at hs) in
     let long : length ws ≡ t = length_tab t (past_at hs) in
     rw (total, filled, capacity_row marks (shares v ws))
-    (omega (arith, capacity_within marks (shares v ws) (omega (arith, length-shares v every ws)), sum-shares v every ws (omega arith)))
+    (omega (arith, capacity_within marks (shares v ws) (omega (arith, length_shares v every ws)), sum_shares v every ws (omega arith)))
 
 -- and its buffer keeps its length
 pub six_room : (hs : List ℕ) (v t : ℕ) {after : List ℕ} → t ≤ 744 → after ≡ as_row (shares v (stretched hs t)) → length after ≡ 744
 unfolding stretched
 six_room hs v t few filled =
     let ws = tab t (past_at hs) in
-    rw filled (length_row (shares v ws) (omega (arith, length-shares v every ws, length_tab t (past_at hs))))
+    rw filled (length_row (shares v ws) (omega (arith, length_shares v every ws, length_tab t (past_at hs))))

@@ -2,7 +2,7 @@
 use Rattle.std.proofs.Common.{arith}
 use Rattle.model.specs.Model.{state, inputs}
 use Rattle.first_ground.proofs.Laws.{known, marks_some, marks_few}
-use Rattle.first_ground.proofs.Firsts.{one-outcome, two-outcome, control-outcome, is_hourly, is_whole, is_missing}
+use Rattle.first_ground.proofs.Firsts.{one_outcome, two_outcome, control_outcome, is_hourly, is_whole, is_missing}
 use Rattle.first_ground.proofs.first_ground.Goals as goal
 
 pub ground_one-requires : goal.ground_one-requires
@@ -11,7 +11,7 @@ ground_one-requires c = rw c.open_hours.ensures (known _ _ _ _ c.requires.hours_
 pub returns-then-r-eq1-2 : goal.returns-then-r-eq1-2
 unfolding inputs
 returns-then-r-eq1-2 c =
-    one-outcome (inputs (state c.args.r c.args.store.now) c.args.marks.now) _
+    one_outcome (inputs (state c.args.r c.args.store.now) c.args.marks.now) _
     (is_hourly _ _ _ c.if-r-eq1.true c.if-r-eq1-2.true) (rw c.open_hours.ensures at c.ground_one.ensures)
 
 pub point_power-requires : goal.point_power-requires
@@ -25,12 +25,12 @@ ground_two-requires c =
 pub returns-then-r-eq1 : goal.returns-then-r-eq1
 unfolding inputs
 returns-then-r-eq1 c =
-    two-outcome (inputs (state c.args.r c.args.store.now) c.args.marks.now) _
+    two_outcome (inputs (state c.args.r c.args.store.now) c.args.marks.now) _
     (is_whole _ _ _ c.if-r-eq1.true c.if-r-eq1-2.false)
     (rw (c.less-v.ensures, c.neighbour_volume.ensures, c.point_power.ensures) at c.ground_two.ensures)
 
 pub returns : goal.returns
 unfolding inputs
 returns c =
-    control-outcome (inputs (state c.args.r c.args.store.now) c.args.marks.now) (is_missing _ _ _ c.if-r-eq1.false)
+    control_outcome (inputs (state c.args.r c.args.store.now) c.args.marks.now) (is_missing _ _ _ c.if-r-eq1.false)
     c.on_control.ensures

@@ -4,7 +4,7 @@ use borrow.Author.Tests.{not-true, not-false}
 use Rattle.units.specs.Volumes.{greatest_volume_read}
 use Rattle.model.specs.Model.{state, inputs}
 use Rattle.first_ground.proofs.Laws.{known, marks_some, marks_few, peaks_few, days_few}
-use Rattle.first_ground.proofs.Firsts.{five-outcome, four-outcome, six-outcome, later-outcome, inputs_past, inputs_no_past, six_test, six_sum, six_room}
+use Rattle.first_ground.proofs.Firsts.{five_outcome, four_outcome, six_outcome, later_outcome, inputs_past, inputs_no_past, six_test, six_sum, six_room}
 use Rattle.first_ground.proofs.on_control_volume.Goals as goal
 
 pub point_power-p-requires : goal.point_power-p-requires
@@ -22,7 +22,7 @@ pub returns-then-not-past : goal.returns-then-not-past
 unfolding inputs
 returns-then-not-past c =
     let a = c.args in
-    five-outcome (inputs (state a.r a.store.now) a.marks.now) _
+    five_outcome (inputs (state a.r a.store.now) a.marks.now) _
     (inputs_no_past a.r a.store.now a.marks.now _ c.find_past-past.ensures (not-true _ c.if-not-past.true))
     (rw (c.less-v.ensures, c.neighbour_volume.ensures, c.point_power-p.ensures) at c.ground_five.ensures)
 
@@ -41,7 +41,7 @@ pub returns-then-counted-le2 : goal.returns-then-counted-le2
 unfolding inputs
 returns-then-counted-le2 c =
     let a = c.args in
-    four-outcome (inputs (state a.r a.store.now) a.marks.now) _ _
+    four_outcome (inputs (state a.r a.store.now) a.marks.now) _ _
     (inputs_past a.r a.store.now a.marks.now _ c.find_past-past.ensures (not-false _ c.if-not-past.false))
     (rw c.counted.ensures at c.if-counted-le2.true) c.open_hours-t.ensures
     (rw (c.less-v.ensures, c.neighbour_volume.ensures) at c.ground_four.ensures)
@@ -73,7 +73,7 @@ returns-then-six_fits c =
     let k = known _ _ _ _ c.requires.hours_value in
     let g = rw (c.open_hours-t.ensures, c.less-v.ensures, c.neighbour_volume.ensures) at c.ground_six-six.ensures in
     let e = rw (c.less-v.ensures, c.neighbour_volume.ensures) at c.six_fits.ensures in
-    six-outcome (inputs (state a.r a.store.now) a.marks.now) _ _
+    six_outcome (inputs (state a.r a.store.now) a.marks.now) _ _
     (inputs_past a.r a.store.now a.marks.now _ c.find_past-past.ensures (not-false _ c.if-not-past.false))
     (rw c.counted.ensures at c.if-counted-le2.false)
     (sym (six_test k _ _ _ c.requires.survey_value e c.point_power-p.ensures c.capacity_sum.ensures g.hours)
@@ -95,7 +95,7 @@ returns c =
     let k = known _ _ _ _ c.requires.hours_value in
     let g = rw (c.open_hours-t.ensures, c.less-v.ensures, c.neighbour_volume.ensures) at c.ground_six-six.ensures in
     let e = rw (c.less-v.ensures, c.neighbour_volume.ensures) at c.six_fits.ensures in
-    later-outcome (inputs (state a.r a.store.now) a.marks.now) _ _
+    later_outcome (inputs (state a.r a.store.now) a.marks.now) _ _
     (inputs_past a.r a.store.now a.marks.now _ c.find_past-past.ensures (not-false _ c.if-not-past.false))
     (rw c.counted.ensures at c.if-counted-le2.false)
     (sym (six_test k _ _ _ c.requires.survey_value e c.point_power-p.ensures c.capacity_sum.ensures g.hours)

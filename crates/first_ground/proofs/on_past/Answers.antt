@@ -1,7 +1,7 @@
 -- The record's past is the model's, and R is counted as the rules count it.
 use Rattle.model.specs.Model.{state, inputs}
 use Rattle.first_ground.proofs.Laws.{known}
-use Rattle.first_ground.proofs.Firsts.{seven-outcome, late-outcome, none-outcome, inputs_past, inputs_no_past}
+use Rattle.first_ground.proofs.Firsts.{seven_outcome, late_outcome, none_outcome, inputs_past, inputs_no_past}
 use Rattle.first_ground.proofs.on_past.Goals as goal
 
 pub find_past-past-requires : goal.find_past-past-requires
@@ -18,7 +18,7 @@ pub returns-then-counted-le2 : goal.returns-then-counted-le2
 unfolding inputs
 returns-then-counted-le2 c =
     let a = c.args in
-    seven-outcome (inputs (state a.r a.store.now) a.marks.now) _
+    seven_outcome (inputs (state a.r a.store.now) a.marks.now) _
     (inputs_past a.r a.store.now a.marks.now _ c.find_past-past.ensures c.if-past.true)
     (rw c.counted.ensures at c.if-counted-le2.true) c.open_hours.ensures c.ground_seven.ensures
 
@@ -26,7 +26,7 @@ pub returns-then-past : goal.returns-then-past
 unfolding inputs
 returns-then-past c =
     let a = c.args in
-    late-outcome (inputs (state a.r a.store.now) a.marks.now) _
+    late_outcome (inputs (state a.r a.store.now) a.marks.now) _
     (inputs_past a.r a.store.now a.marks.now _ c.find_past-past.ensures c.if-past.true)
     (rw c.counted.ensures at c.if-counted-le2.false) c.by_contract.ensures
 
@@ -34,5 +34,5 @@ pub returns : goal.returns
 unfolding inputs
 returns c =
     let a = c.args in
-    none-outcome (inputs (state a.r a.store.now) a.marks.now)
+    none_outcome (inputs (state a.r a.store.now) a.marks.now)
     (inputs_no_past a.r a.store.now a.marks.now _ c.find_past-past.ensures c.if-past.false) c.by_contract-2.ensures
