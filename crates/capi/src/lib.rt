@@ -1,6 +1,7 @@
 // The C interface. The header is include/sallowbingo.h. Here are the two functions of the billing host, plain numbers in
 // and out; `calls` has the calls on a point.
 #![tactic(auto)]
+
 ghost use Rattle.std.specs.Prelude.{◌≡◌};
 ghost use Rattle.calendar.specs.Calendar.{month_days};
 ghost use Rattle.power.specs.Power.{formula_in};
@@ -24,6 +25,7 @@ pub extern "C" fn sallowbingo_cable_formula(
 }
 
 // The length of a month in days, and 0 outside January 2014 to December 2999.
+#[tactic(auto, using(calendar::proofs::Laws::after_last, calendar::proofs::Laws::after_december))]
 #[unsafe(no_mangle)]
 pub extern "C" fn sallowbingo_month_days(year: u64, month: u64) -> u32
     ensures { result ≡ month_days (record { year = year; month = month }) }
