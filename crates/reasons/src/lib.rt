@@ -1,5 +1,6 @@
 // Why a month is closed on its ground: what the rules look at, before the closing (document 01, 'Closing').
 #![tactic(auto)]
+
 ghost use Rattle.std.specs.Prelude.{◌≡◌, true, cond};
 ghost use Rattle.rules.specs.Calls.Call.{closing};
 ghost use Rattle.model.specs.Model.{state, accepted};

@@ -16,6 +16,7 @@ use record::Record;
 use units::Kwh;
 
 // The point of document 000: none with a billing reading; else 178 with two denials; else 179 out of service; else 166.
+#[tactic(auto, unfolding(crate::specs::Reasons::clause_of))]
 pub(crate) fn clause_of(r: Record) -> u32
     ensures { result ≡ clause_of r }
 {
@@ -26,6 +27,7 @@ pub(crate) fn clause_of(r: Record) -> u32
 
 // The reading that V comes from: that of an integral billing meter, or without a billing reading that of an integral
 // control meter; else 0.
+#[tactic(auto, using(crate::proofs::Laws::reading_is))]
 pub(crate) fn volume_read(r: Record) -> Kwh
     ensures { (hs ks : List ℕ)
         → result.0 ≡ volume_read (measured_in r.contract.billing r.readings.billing hs) (measured_in r.contract.control r.readings.control ks) }
