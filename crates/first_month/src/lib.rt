@@ -1,5 +1,6 @@
 // A month played through the public calls. What their contracts promise makes a run, so demand 3 speaks of it.
 #![tactic(auto)]
+
 ghost use Rattle.first_month.specs.FirstMonth.{FirstMonth};
 
 use calendar::Date;
