@@ -1,5 +1,6 @@
 // From a line of a history file to the call that it makes on a point.
 #![tactic(auto)]
+
 ghost use Rattle.std.specs.Prelude.{◌≡◌, length};
 ghost use Rattle.rules.specs.Calls.Call.{closing};
 ghost use Rattle.model.specs.Model.{state, Does};
@@ -25,6 +26,7 @@ use record::Record;
 use units::{Kw, Kwh};
 
 // The value of an argument, 0 where it is not given.
+#[tactic(auto, unfolding(crate::specs::Calls::argument_of))]
 fn argument(line: Line, key: u32) -> u64
     ensures { result ≡ argument_of key line }
 {
@@ -33,6 +35,7 @@ fn argument(line: Line, key: u32) -> u64
 }
 
 // The same in 32 bits, which a line keeps it to.
+#[tactic(auto, unfolding(crate::specs::Calls::field_of))]
 fn field(line: Line, key: u32) -> u32
     ensures { result ≡ field_of key line }
 {
@@ -40,6 +43,7 @@ fn field(line: Line, key: u32) -> u32
 }
 
 // The cable of an opening.
+#[tactic(auto, unfolding(crate::specs::Calls::cable_by))]
 fn cable_by(line: Line) -> Cable
     ensures { result ≡ cable_by line }
 {
@@ -56,6 +60,7 @@ fn cable_by(line: Line) -> Cable
 }
 
 // The contract of an opening.
+#[tactic(auto, unfolding(crate::specs::Calls::asked_by))]
 fn contract_by(line: Line) -> Contract
     ensures { result ≡ asked_by line }
 {
@@ -74,6 +79,7 @@ fn contract_by(line: Line) -> Contract
 }
 
 // The month of an opening.
+#[tactic(auto, unfolding(crate::specs::Calls::date_by))]
 fn date_by(line: Line) -> Date
     ensures { result ≡ date_by line }
 {
@@ -86,6 +92,7 @@ fn date_by(line: Line) -> Date
 }
 
 // Opens a point as a line says; the list is that of the currents.
+#[tactic(auto, unfolding(crate::specs::Calls::opening_by))]
 pub fn open_by(line: Line, list: &[u32], store: &mut [u32]) -> Answer
     ensures { Opens (opening_by line list.now) store.old result store.new }
 {

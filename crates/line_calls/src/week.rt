@@ -9,6 +9,7 @@ use numbers::{bit, wide};
 const SHIFTS: [u32; 12] = [0, 3, 2, 5, 0, 3, 5, 1, 4, 6, 2, 4];
 
 // The day of the week of a month's first day, Monday 0; 0 where no such month can be open.
+#[tactic(auto, unfolding(crate::specs::Week::first_weekday))]
 pub fn first_weekday(d: Date) -> u32
     ensures { result ≡ first_weekday d }
 {
