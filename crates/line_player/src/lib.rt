@@ -1,5 +1,6 @@
 // One line of a history: read, its call made on the point, its answer written.
 #![tactic(auto)]
+
 ghost use Rattle.std.specs.Prelude.{◌≡◌};
 ghost use Rattle.numbers.specs.Lists.{zeros};
 ghost use Rattle.model.specs.Model.{state};
