@@ -27,6 +27,49 @@ use Rattle.line_reader.specs.Lines.{fresh_line, after_token_in_call, after_token
 use Rattle.line_reader.specs.Lines.{read_token, read_tokens, read_line, Ended}
 use Rattle.line_reader.proofs.Finished.{token_done}
 
+-- THE END OF THE LINE FINISHES IT, whatever was expected
+data Done (s : Line) : Type 0 where
+  done : read_mode ≤ s.mode → Done s
+
+done_either : (b : Bool) {x y : Line} → Done x → Done y → Done (cond b x y)
+done_either true p q = p
+done_either false p q = q
+
+end_in_call : (s : Line) (t : Token) → t.kind ≡ end_kind → Done (after_token_in_call s t)
+unfolding after_token_in_call in_call in_value in_dash in_argument in_form in_last
+end_in_call s t k =
+    rw k
+    (done_either (eqb s.mode call_mode) (done (omega arith))
+    (done_either (eqb s.mode value_mode) (done (omega arith))
+    (done_either (eqb s.mode dash_mode) (done (omega arith))
+    (done_either (eqb s.mode argument_mode) (done (omega arith)) (done_either (eqb s.mode form_mode) (done (omega arith)) (done (omega arith)))))))
+
+end_in_list : (s : Line) (t : Token) → t.kind ≡ end_kind → Done (in_list s t)
+unfolding in_list
+end_in_list s t k = rw k (done_either (not (eqb s.numbers.fresh 1)) (done (omega arith)) (done (omega arith)))
+
+end_in_group : (hours : ℕ) (s : Line) (t : Token) → t.kind ≡ end_kind → Done (in_group hours s t)
+unfolding in_group
+end_in_group hours s t k = rw k (done (omega arith))
+
+end_in_counted : (s : Line) (t : Token) → t.kind ≡ end_kind → Done (in_counted s t)
+unfolding in_counted
+end_in_counted s t k = rw k (done (omega arith))
+
+end_in_day : (s : Line) (t : Token) → t.kind ≡ end_kind → Done (in_day s t)
+unfolding in_day
+end_in_day s t k = rw k (done (omega arith))
+
+end_done : (hours : ℕ) (s : Line) (t : Token) → t.kind ≡ end_kind → Done (after_token hours s t)
+unfolding after_token
+end_done hours s t k =
+    let no-foreign : eqb t.kind foreign_kind ≡ false = rw k in
+    let not-long : eqb t.kind long_kind ≡ false = rw k in
+    rw (no-foreign, not-long)
+    (done_either (eqb s.mode list_mode) (end_in_list s t k)
+    (done_either (eqb s.mode group_mode) (end_in_group hours s t k)
+    (done_either (eqb s.mode counted_mode) (end_in_counted s t k) (done_either (eqb s.mode day_mode) (end_in_day s t k) (end_in_call s t k)))))
+
 -- a line that has not failed has no error, and one that has failed has one
 data Stands (s : Line) : Type 0 where
   goes : s.error ≡ no_error → s.mode ≤ read_mode → Stands s
@@ -171,49 +214,6 @@ module _ (s : Line) (t : Token) (e : s.error ≡ no_error) where
       (stands_either (eqb s.mode list_mode) list_stands
       (stands_either (eqb s.mode group_mode) (group_stands hours)
       (stands_either (eqb s.mode counted_mode) counted_stands (stands_either (eqb s.mode day_mode) day_stands in_call_stands)))))
-
--- THE END OF THE LINE FINISHES IT, whatever was expected
-data Done (s : Line) : Type 0 where
-  done : read_mode ≤ s.mode → Done s
-
-done_either : (b : Bool) {x y : Line} → Done x → Done y → Done (cond b x y)
-done_either true p q = p
-done_either false p q = q
-
-end_in_call : (s : Line) (t : Token) → t.kind ≡ end_kind → Done (after_token_in_call s t)
-unfolding after_token_in_call in_call in_value in_dash in_argument in_form in_last
-end_in_call s t k =
-    rw k
-    (done_either (eqb s.mode call_mode) (done (omega arith))
-    (done_either (eqb s.mode value_mode) (done (omega arith))
-    (done_either (eqb s.mode dash_mode) (done (omega arith))
-    (done_either (eqb s.mode argument_mode) (done (omega arith)) (done_either (eqb s.mode form_mode) (done (omega arith)) (done (omega arith)))))))
-
-end_in_list : (s : Line) (t : Token) → t.kind ≡ end_kind → Done (in_list s t)
-unfolding in_list
-end_in_list s t k = rw k (done_either (not (eqb s.numbers.fresh 1)) (done (omega arith)) (done (omega arith)))
-
-end_in_group : (hours : ℕ) (s : Line) (t : Token) → t.kind ≡ end_kind → Done (in_group hours s t)
-unfolding in_group
-end_in_group hours s t k = rw k (done (omega arith))
-
-end_in_counted : (s : Line) (t : Token) → t.kind ≡ end_kind → Done (in_counted s t)
-unfolding in_counted
-end_in_counted s t k = rw k (done (omega arith))
-
-end_in_day : (s : Line) (t : Token) → t.kind ≡ end_kind → Done (in_day s t)
-unfolding in_day
-end_in_day s t k = rw k (done (omega arith))
-
-end_done : (hours : ℕ) (s : Line) (t : Token) → t.kind ≡ end_kind → Done (after_token hours s t)
-unfolding after_token
-end_done hours s t k =
-    let no-foreign : eqb t.kind foreign_kind ≡ false = rw k in
-    let not-long : eqb t.kind long_kind ≡ false = rw k in
-    rw (no-foreign, not-long)
-    (done_either (eqb s.mode list_mode) (end_in_list s t k)
-    (done_either (eqb s.mode group_mode) (end_in_group hours s t k)
-    (done_either (eqb s.mode counted_mode) (end_in_counted s t k) (done_either (eqb s.mode day_mode) (end_in_day s t k) (end_in_call s t k)))))
 
 -- TOKEN BY TOKEN: a line of which n tokens are read is finished, or stands at place n or behind it
 record Far (n : ℕ) (s : Line) : Type 0 where
