@@ -193,7 +193,7 @@ inputs_of o es marks =
 
 -- nothing is worked out at a call that closes no month
 abbrev pub nothing : Outcome
-nothing = record { ground = 0; hours = []; exact = λ h. record { top = 0; bottom = 1 }; volume = 0 }
+nothing = record { «ground» = 0; hours = []; exact = λ h. record { top = 0; bottom = 1 }; volume = 0 }
 
 -- the rules under Closing give ground, hours, exact shares and month volume
 unfoldable pub work_out : Opening → Book → Call → Outcome
