@@ -1,5 +1,6 @@
 // What the benchmark times, exported on plain numbers and slices. Each function has the contract of the one behind it.
 #![tactic(auto)]
+
 ghost use Rattle.std.specs.Prelude.{◌≡◌, ◌&&◌, length};
 ghost use Rattle.numbers.specs.Lists.{sum_to, none_above};
 ghost use Rattle.sharing.specs.Shares.{within, shares_over, past_at, stretched, chosen_at, month_fits, weights_fit, Shared};
