@@ -110,6 +110,9 @@ pub struct Step {
     pub progress: Progress,
 }
 
+// How many bytes are read at once.
+const CHUNK: usize = 65536;
+
 // Reads once, plays what came and writes the answers, so that a line that is typed is answered at once.
 fn play_some<R: Read>(
     rt: &impl Print,
@@ -120,7 +123,7 @@ fn play_some<R: Read>(
     store: &mut [u32],
     out: &mut [u8],
 ) -> io::Result<Step> {
-    let mut chunk = [0u8; 65536];
+    let mut chunk = [0; CHUNK];
     let Ok(n) = file.read(&mut chunk) else {
         return Ok(Step {
             more: false,

@@ -10,12 +10,15 @@ mod options;
 use files::{flush, fresh_progress, no_file, start_file};
 use input::{Step, end_input, play_input};
 use line_player::{Layout, Progress};
-use options::{Options, argument, find_options, is_option, print_help};
+use options::{ARGUMENT_ROOM, Options, argument, find_options, is_option, print_help};
 use sheets::answers::put_end;
 use std::env::Env;
 use std::fs::Files;
 use std::io::{Input, Read};
 use std::{fs, io, str};
+
+// Room for answers that are not yet written out: twice as many bytes as make a flush due.
+const ANSWERS_ROOM: usize = 65536;
 
 // Room for the bytes of a line.
 fn line_room() -> [u8; 16384]
@@ -102,7 +105,7 @@ fn play_argument(
     p: Progress,
     out: &mut [u8],
 ) -> io::Result<Option<Progress>> {
-    let mut name = [0u8; 4096];
+    let mut name = [0; ARGUMENT_ROOM];
     let Some(n) = argument(rt, i, &mut name) else {
         return Ok(None);
     };
@@ -159,7 +162,7 @@ fn run(rt: &(impl Env + Files + Input + Print)) -> io::Result<()> {
     if o.help {
         return print_help(rt, o);
     }
-    let mut out = [0u8; 65536];
+    let mut out = [0; ANSWERS_ROOM];
     play(rt, o, &mut out)
 }
 

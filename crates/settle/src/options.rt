@@ -5,6 +5,9 @@ use line_player::Layout;
 use std::env::{Env, FillError};
 use std::io;
 
+// Room for an argument of the command, which holds any path.
+pub const ARGUMENT_ROOM: usize = 4096;
+
 // Whether help is printed, which argument is an option that is not known, 0 for none, how the answers are written, and how
 // many files there are.
 #[derive(Clone, Copy)]
@@ -68,7 +71,7 @@ fn with_argument(o: Options, word: &[u8], i: usize) -> Options {
 
 // The options with argument i of the command, or none behind the last.
 fn with_place(rt: &impl Env, o: Options, i: usize) -> Option<Options> {
-    let mut word = [0u8; 4096];
+    let mut word = [0; ARGUMENT_ROOM];
     let n = argument(rt, i, &mut word)?;
     Some(with_argument(o, &word[..n], i))
 }
@@ -96,7 +99,7 @@ pub fn find_options(rt: &impl Env) -> Options {
 
 // Which option is not known.
 fn print_unknown(rt: &(impl Env + Print), i: usize) -> io::Result<()> {
-    let mut word = [0u8; 4096];
+    let mut word = [0; ARGUMENT_ROOM];
     let n = argument(rt, i, &mut word).unwrap_or(0);
     rt.write_all(b"unknown option: ")?;
     rt.write_all(&word[..n])?;
