@@ -191,9 +191,13 @@ inputs_of o es marks =
       past = past_of o es;
     }
 
+-- no hours and no volume
+abbrev pub empty_on : (ground : ℕ) → Outcome
+empty_on g = record { ground = g; hours = []; exact = λ h. record { top = 0; bottom = 1 }; volume = 0 }
+
 -- nothing is worked out at a call that closes no month
 abbrev pub nothing : Outcome
-nothing = record { «ground» = 0; hours = []; exact = λ h. record { top = 0; bottom = 1 }; volume = 0 }
+nothing = empty_on 0
 
 -- the rules under Closing give ground, hours, exact shares and month volume
 unfoldable pub work_out : Opening → Book → Call → Outcome
