@@ -63,6 +63,7 @@ fn keep_hours(store: &mut [u32], new: bool, row: usize, hours: &[u32])
 }
 
 // The same, and rows 12 and 13 clear.
+#[tactic(auto, using(crate::proofs::Leaves::store_is))]
 pub(crate) fn store_after(store: &mut [u32], new: bool, d: Date, hours: &[u32])
     requires { (length store.old ≡ 10416) × (is_month d ≡ true) × (length hours.now ≡ 744) }
     ensures { store.new ≡ store_after new hours.now d store.old }

@@ -1,14 +1,13 @@
 -- A refused opening leaves the store, an accepted one clears it and keeps the contract.
-use Rattle.std.proofs.Common.{sym, ◌∙◌}
+use Rattle.std.proofs.Common.{rules, sym, ◌∙◌}
 use borrow.Author.Tests.{eq-eqb}
-use Rattle.model.proofs.Laws.{allowed, not_opened, now_opened}
+use Rattle.model.proofs.Laws.{allowed, now_opened}
 use Rattle.model.specs.Opening.{opened}
-use Rattle.opening.proofs.Laws.{kept_is}
+use Rattle.opening.proofs.Laws.{kept_is, refused_opening}
 use Rattle.opening.proofs.open_point.Goals as goal
 
 pub returns-then-n-ne0 : goal.returns-then-n-ne0
-returns-then-n-ne0 c =
-    not_opened _ _ c.open_refusal-n.ensures c.if-n-ne0.true (rw c.zero_record.ensures at c.answer_with.ensures)
+returns-then-n-ne0 c = search (refused_opening, rules)
 
 pub returns : goal.returns
 unfolding opened

@@ -1,7 +1,6 @@
 -- The month's row is one of the twelve, and the store keeps its length.
 use Rattle.calendar.proofs.Laws.{limits}
 use Rattle.model.proofs.Closes.{row_few}
-use Rattle.closing.proofs.Leaves.{store_is}
 use Rattle.closing.proofs.after.store_after.Goals as goal
 
 pub overflow_sub-row : goal.overflow_sub-row
@@ -9,8 +8,3 @@ overflow_sub-row c = (limits _ c.requires.1).first
 
 pub keep_hours-requires : goal.keep_hours-requires
 keep_hours-requires c = (c.requires.0, row_few _ c.requires.1, c.requires.2)
-
-pub returns : goal.returns
-returns c =
-    store_is c.args.new c.args.d c.args.hours.now c.args.store.now c.requires.0 c.requires.1 c.requires.2
-    c.keep_hours.ensures c.clear_row.ensures c.clear_row-2.ensures
