@@ -1,7 +1,8 @@
 // The calls on a point through C: each takes the record by value, the store and the hours as a pointer and a length, and
 // answers a struct by value. A wrapper has the contract of the call behind it.
 ghost use Rattle.std.specs.Prelude.{[]};
-ghost use Rattle.rules.specs.Calls.Call.{billing_hours, billing_volume, control_hours, control_volume, neighbour, failure, admission, denial, permission, closing};
+ghost use Rattle.rules.specs.Calls.Call.{billing_hours, billing_volume, control_hours, control_volume, neighbour};
+ghost use Rattle.rules.specs.Calls.Call.{failure, admission, denial, permission, closing};
 ghost use Rattle.model.specs.Model.{state, Does};
 ghost use Rattle.model.specs.Opening.{Opens};
 

@@ -49,7 +49,8 @@ closed s t sound y = record { left = rw y; sound = call_sound s (plainly t) soun
 
 -- what computes
 unfoldable month_definitions : Unit {0}
-unfolding opened kept power_on power_of accept closed_with inputs measured_in past_in rules on_billing on_control on_past by_contract evenly by_weights becomes_past
+unfolding opened kept power_on power_of accept closed_with inputs measured_in past_in rules on_billing on_control on_past by_contract evenly
+    by_weights becomes_past
     open_hours month_hours month_days is_month leap_year next_month refuse high crowded unmatched none_above
 month_definitions = tt
 
@@ -70,7 +71,8 @@ begun = refl
 first : Closed january 744
 unfolding january month_definitions
 first =
-    closed january 744 (opening_sound one_kilowatt empty_store begun) (passes january (zeros 744) (zeros 744) (opening_sound one_kilowatt empty_store begun) refl)
+    closed january 744 (opening_sound one_kilowatt empty_store begun)
+    (passes january (zeros 744) (zeros 744) (opening_sound one_kilowatt empty_store begun) refl)
 
 second : Closed next 672
 unfolding january next month_definitions

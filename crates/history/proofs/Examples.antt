@@ -206,7 +206,8 @@ fed = (refl, refl, refl)
 
 -- what unfolds to work a closing out
 unfoldable closing_definitions : Unit {0}
-unfolding book_definitions rules on_billing on_control on_past by_contract evenly by_peaks by_weights as_read stretched shared_power shares_over spread taken portion
+unfolding book_definitions rules on_billing on_control on_past by_contract evenly by_peaks by_weights as_read stretched shared_power shares_over
+    spread taken portion
     kept power_on power_of open_hours month_hours month_days leap_year is_month
 closing_definitions = tt
 

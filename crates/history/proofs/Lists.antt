@@ -98,7 +98,8 @@ again zero t ts = ts
 again (suc n) t ts = t ∷ again n t ts
 
 unfoldable turn_definitions : Unit {0}
-unfolding book_definitions state_after was_accepted closes book handed all_handed fills_row last_buffer without_refused open_hours month_hours month_days leap_year is_month
+unfolding book_definitions state_after was_accepted closes book handed all_handed fills_row last_buffer without_refused open_hours month_hours
+    month_days leap_year is_month
 turn_definitions = tt
 
 -- accepted is number 0; only an accepted closing closes
