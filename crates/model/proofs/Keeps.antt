@@ -16,7 +16,8 @@ use Rattle.calendar.proofs.Laws.{number_limits}
 use Rattle.record.specs.declared.Service.{Service}
 use Rattle.record.specs.declared.Readings.{Readings}
 use Rattle.record.specs.declared.Record.{Record}
-use Rattle.record.specs.Record.{not_given, given_as, with_service, with_readings, with_serving, with_denials, with_billing, with_control, with_first, with_second}
+use Rattle.record.specs.Record.{not_given, given_as, with_service, with_readings, with_serving, with_denials}
+use Rattle.record.specs.Record.{with_billing, with_control, with_first, with_second}
 use Rattle.validity.specs.Valid.{volume_limit, valid}
 use Rattle.validity.proofs.Laws.{Valid, valid_parts, valid_from, ServiceFits, service_parts, service_from, ReadingsFit, readings_parts}
 use Rattle.validity.proofs.Laws.{readings_from, missing_fits, hours_fit, volume_fits}

@@ -180,10 +180,14 @@ unfolding Passes Fails valid_definitions
 form_lacking = (refl, refl)
 
 volume_limits :
-    Passes (read (meters 2 2) (given_as 744000000) not_given not_given not_given) × Fails (read (meters 2 2) (given_as 744000001) not_given not_given not_given)
-    × Passes (read (meters 2 2) not_given (given_as 744000000) not_given not_given) × Fails (read (meters 2 2) not_given (given_as 744000001) not_given not_given)
-    × Passes (read (meters 2 2) not_given not_given (given_as 744000000) not_given) × Fails (read (meters 2 2) not_given not_given (given_as 744000001) not_given)
-    × Passes (read (meters 2 2) not_given not_given not_given (given_as 744000000)) × Fails (read (meters 2 2) not_given not_given not_given (given_as 744000001))
+    Passes (read (meters 2 2) (given_as 744000000) not_given not_given not_given)
+    × Fails (read (meters 2 2) (given_as 744000001) not_given not_given not_given)
+    × Passes (read (meters 2 2) not_given (given_as 744000000) not_given not_given)
+    × Fails (read (meters 2 2) not_given (given_as 744000001) not_given not_given)
+    × Passes (read (meters 2 2) not_given not_given (given_as 744000000) not_given)
+    × Fails (read (meters 2 2) not_given not_given (given_as 744000001) not_given)
+    × Passes (read (meters 2 2) not_given not_given not_given (given_as 744000000))
+    × Fails (read (meters 2 2) not_given not_given not_given (given_as 744000001))
 unfolding Passes Fails valid_definitions
 volume_limits = (refl, refl, refl, refl, refl, refl, refl, refl)
 
