@@ -1,23 +1,30 @@
 #!/usr/bin/env python3
 """sentences.py: the sentences of the program are the binding's and the page's, number by number.
 
-The program chooses a sentence by its place in a text, so that one line too many or too few would put every later sentence
-to a wrong number. Three of the refusals can be met in no history file, and are held by this alone.
+Three of the refusals can be met in no history file, and are held by this alone.
 """
 import re
 
 WORDING = "crates/sheets/src/wording.rt"
+ERRORS = "crates/line_reader/src/errors.rt"
 
 
 def text(path):
     return open(path).read()
 
 
+def error_numbers():
+    """The numbers of the errors, which the cases of the type have in their order."""
+    cases = re.search(r"^pub enum Error \{(.*?)^\}", text(ERRORS), re.M | re.S)[1]
+    names = re.findall(r"^    (\w+)(?: = 1)?,$", cases, re.M)
+    return {f"Error::{name}": number for number, name in enumerate(names, 1)}
+
+
 def spoken(function):
-    """The lines of the function's text that are not empty, by their place from 0 on."""
+    """The sentences of the function, by the numbers that it gives them to."""
     body = re.search(rf"^pub fn {function}\(.*?^}}", text(WORDING), re.M | re.S)[0]
-    lines = re.search(r'b"(.*?)",', re.sub(r"\\\n *", "", body), re.S)[1].split(r"\n")
-    return {place: line for place, line in enumerate(lines) if line}
+    arms = re.findall(r'^ +([\w:]+) =>[\s{]*"([^"]*)"', body, re.M)
+    return {int(case) if case.isdigit() else error_numbers()[case]: said for case, said in arms if case != "_"}
 
 
 def refusals():
@@ -37,7 +44,7 @@ def errors():
     return {int(number): said for number, said in re.findall(r"^\| (\d+) \| ([^|]*) \|[^|]*\|$", page, re.M)}
 
 
-for function, expected, size in (("put_refusal", refusals(), 24), ("put_ground", grounds(), 9), ("put_error", errors(), 20)):
+for function, expected, size in (("refusal_words", refusals(), 24), ("ground_words", grounds(), 9), ("error_words", errors(), 20)):
     assert len(expected) == size, f"{function}: {len(expected)} sentences, not {size}"
     said = spoken(function)
     for number in sorted(set(said) | set(expected)):

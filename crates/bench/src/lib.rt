@@ -25,7 +25,7 @@ pub extern "C" fn bench_share_by_row(
         (shares_over volume (chosen_at chosen.now) (stretched (row_part store.now row t) (length chosen.now)))
         hours.old hours.new result }
 {
-    grounds::past::share_by_row(Kwh(volume), store, row, t, chosen, hours)
+    grounds::past::share_by_row(Kwh(volume), store, row, t, chosen, hours).is_ok()
 }
 
 #[unsafe(no_mangle)]
@@ -34,7 +34,7 @@ pub extern "C" fn bench_peak_rule(volume: u64, power: u32, marks: &[u8], hours: 
         (peak_rule volume power marks.now)
         hours.old hours.new result }
 {
-    marks::peak::peak_rule(Kwh(volume), Kw(power), marks, hours)
+    marks::peak::peak_rule(Kwh(volume), Kw(power), marks, hours).is_ok()
 }
 
 #[unsafe(no_mangle)]

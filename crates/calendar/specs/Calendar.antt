@@ -1,5 +1,5 @@
 -- Months (document 01, "Months and marks"; document 02, E5): January 2014 to December 2999, their lengths, and their numbers.
-use Rattle.std.specs.Prelude.{ℕ, ◌+◌, ◌-◌, ◌*◌, ◌/◌, ◌%◌, Bool, not, cond, ◌&&◌, ◌||◌, List, [], ◌∷◌, ◌≡◌, get_or, leb, eqb}
+use Rattle.std.specs.Prelude.{ℕ, ◌+◌, ◌-◌, ◌*◌, ◌/◌, ◌%◌, Bool, not, cond, ◌&&◌, ◌||◌, List, [], ◌∷◌, ◌≡◌, Option, None, Some, get_or, leb, eqb}
 use Rattle.calendar.specs.declared.Date.{Date}
 
 -- the lengths of the twelve months, a constant table
@@ -71,9 +71,22 @@ place_of n = (n - 1) % 12
 unfoldable pub date_of : ℕ → Date
 date_of n = record { year = year_of n; month = place_of n + 1 }
 
--- the same from January 2014 to January 3000; else year 0 and month 0
+-- whether it is from January 2014 to January 3000
+abbrev pub is_open_number : ℕ → Bool
+is_open_number n = leb 24169 n && leb n 36001
+
+-- the same where it is; else no month
+unfoldable pub month_in : ℕ → Option Date
+month_in n = cond (is_open_number n) (Some (date_of n)) None
+
+-- the same where it is; else year 0 and month 0
 unfoldable pub date_in : ℕ → Date
-date_in n = cond (leb 24169 n && leb n 36001) (date_of n) (record { year = 0; month = 0 })
+date_in n = cond (is_open_number n) (date_of n) (record { year = 0; month = 0 })
+
+-- a month, with year 0 and month 0 for none
+abbrev pub date_given : Option Date → Date
+date_given None = record { year = 0; month = 0 }
+date_given (Some d) = d
 
 -- the month after this one: after December, January of the next year
 unfoldable pub next_month : Date → Date

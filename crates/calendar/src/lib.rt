@@ -2,13 +2,11 @@
 
 ghost use Rattle.std.specs.Prelude.{◌≡◌};
 ghost use Rattle.calendar.specs.Calendar.{is_month, month_days, february_days, SameLengths, month_hours, is_end, is_open, open_hours};
-ghost use Rattle.calendar.specs.Calendar.{month_number, is_month_number, date_in, next_in};
-
-use numbers::{pick, wide};
+ghost use Rattle.calendar.specs.Calendar.{month_number, is_month_number, month_in, date_given, date_in, next_in};
 
 // A month of a year. Months count from 1, January, to 12, December.
 #[repr(C)]
-#[derive(Clone, Copy)]
+#[derive(Clone, Copy, PartialEq, Eq, PartialOrd, Ord, Default)]
 pub struct Date {
     pub year: u32,
     pub month: u32,
@@ -41,7 +39,7 @@ fn february_days(y: u32) -> u32
 pub fn is_month(d: Date) -> bool
     ensures { result ≡ is_month d }
 {
-    (1 <= d.month) & (d.month <= 12) & (2014 <= d.year) & (d.year <= 2999)
+    (1..=12).contains(&d.month) & (2014..=2999).contains(&d.year)
 }
 
 // The days of month `d`; 0 where it is none of the months that are calculated, so that any date may be asked for.
@@ -74,11 +72,17 @@ pub fn month_hours(d: Date) -> u32
     24 * month_days(d)
 }
 
+// The month behind the last one that is calculated.
+const END: Date = Date {
+    year: 3000,
+    month: 1,
+};
+
 // January 3000, which can be open and is never closed.
 fn is_end(d: Date) -> bool
     ensures { result ≡ is_end d }
 {
-    (d.year == 3000) & (d.month == 1)
+    d == END
 }
 
 // Whether a record can have `d` open: a month that is calculated, or January 3000.
@@ -93,7 +97,7 @@ pub fn is_open(d: Date) -> bool
 pub fn open_hours(d: Date) -> u32
     ensures { result ≡ open_hours d }
 {
-    pick(is_end(d), 744, month_hours(d))
+    if is_end(d) { 744 } else { month_hours(d) }
 }
 
 // The number of month `d`, by which months are counted and compared: any two that follow each other are one apart.
@@ -101,33 +105,29 @@ pub fn open_hours(d: Date) -> u32
 pub fn month_number(d: Date) -> u64
     ensures { result ≡ month_number d }
 {
-    wide(d.year) * 12 + wide(d.month)
+    u64::from(d.year) * 12 + u64::from(d.month)
 }
 
 // Whether `n` is the number of a month that is calculated, 2014 to 2999.
 pub fn is_month_number(n: u64) -> bool
     ensures { result ≡ is_month_number n }
 {
-    (24169 <= n) & (n <= 36000)
+    (24169..=36000).contains(&n)
 }
 
-// The month whose number is `n`, from January 2014 to January 3000; else year 0 and month 0, so that any number may be asked for.
-#[tactic(auto, unfolding(crate::specs::Calendar::date_in, crate::specs::Calendar::date_of))]
-pub fn date_of(n: u64) -> Date
-    ensures { result ≡ date_in n }
+// The month whose number is `n`, from January 2014 to January 3000; any number may be asked for.
+#[tactic(auto, unfolding(crate::specs::Calendar::month_in, crate::specs::Calendar::date_in, crate::specs::Calendar::date_of))]
+pub fn date_of(n: u64) -> Option<Date>
+    ensures month { result ≡ month_in n }
+    ensures date { date_given result ≡ date_in n }
 {
-    if n < 24169 {
-        return Date { year: 0, month: 0 };
+    if !(24169..=36001).contains(&n) {
+        return None;
     }
-    if 36001 < n {
-        return Date { year: 0, month: 0 };
-    }
-    let year = ((n - 1) / 12) as u32;
-    let month = ((n - 1) % 12 + 1) as u32;
-    Date {
-        year: year,
-        month: month,
-    }
+    Some(Date {
+        year: ((n - 1) / 12) as u32,
+        month: ((n - 1) % 12 + 1) as u32,
+    })
 }
 
 // The month after `d`; `d` itself where it is none of the months that are calculated, so that no date is left without an answer.
@@ -135,14 +135,17 @@ pub fn date_of(n: u64) -> Date
 pub fn next_month(d: Date) -> Date
     ensures { result ≡ next_in d }
 {
-    if is_month(d) {
-        let last = d.month == 12;
-        let year = pick(last, d.year + 1, d.year);
-        let month = pick(last, 1, d.month + 1);
+    if !is_month(d) {
+        return d;
+    }
+    if d.month == 12 {
         return Date {
-            year: year,
-            month: month,
+            year: d.year + 1,
+            month: 1,
         };
     }
-    d
+    Date {
+        month: d.month + 1,
+        ..d
+    }
 }

@@ -1,22 +1,21 @@
 // What a chart of the days of a month shows: the sums of its days, the largest of them, and how high a bar is.
 #![tactic(auto)]
 
-ghost use Rattle.std.specs.Prelude.{◌≡◌, cond, ◌+◌, ◌*◌, ◌≤◌, ltb};
+ghost use Rattle.std.specs.Prelude.{◌≡◌, ◌≤◌};
 ghost use Rattle.charts.specs.Charts.{hour_of, day_sum, largest_day, reaches_above};
 
-use numbers::{least, word_at};
+use numbers::word_at;
 
 // An hour of a day, both counted from 0.
 #[tactic(auto, unfolding(crate::specs::Charts::hour_of))]
 pub fn hour_of(hours: &[u32], day: usize, h: usize) -> u64
     ensures { (result ≡ hour_of hours.now day h) × (result ≤ 4294967295) }
 {
-    if day < 31 {
-        if h < 24 {
-            return word_at(hours, day * 24 + h);
-        }
+    if day < 31 && h < 24 {
+        word_at(hours, day * 24 + h)
+    } else {
+        0
     }
-    0
 }
 
 // The sum of the hours of a day.
@@ -25,19 +24,10 @@ pub fn day_sum(hours: &[u32], day: usize) -> u64
     ensures { result ≡ day_sum hours.now day }
 {
     let mut sum = 0;
-    let mut h: usize = 0;
-    while h < 24 {
+    for h in 0..24 {
         sum += hour_of(hours, day, h);
-        h += 1;
     }
     sum
-}
-
-// The larger of two numbers.
-pub fn larger(a: u64, b: u64) -> u64
-    ensures { result ≡ cond (ltb a b) b a }
-{
-    if a < b { b } else { a }
 }
 
 // The largest day of a month.
@@ -45,11 +35,9 @@ pub fn larger(a: u64, b: u64) -> u64
 pub fn largest_day(hours: &[u32], days: usize) -> u64
     ensures { result ≡ largest_day hours.now days }
 {
-    let mut most = 0;
-    let mut day = 0;
-    while day < days {
-        most = larger(most, day_sum(hours, day));
-        day += 1;
+    let mut most: u64 = 0;
+    for day in 0..days {
+        most = most.max(day_sum(hours, day));
     }
     most
 }
@@ -60,5 +48,5 @@ pub fn largest_day(hours: &[u32], days: usize) -> u64
 pub fn reaches(sum: u64, most: u64, row: u64) -> bool
     ensures { result ≡ reaches_above sum most row }
 {
-    least(row, 4) * least(most, 200000000000) < 5 * least(sum, 200000000000)
+    row.min(4) * most.min(200_000_000_000) < 5 * sum.min(200_000_000_000)
 }

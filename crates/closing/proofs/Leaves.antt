@@ -1,13 +1,12 @@
 -- The number of a closing, and what it leaves, as the model has them. Assumes nothing.
-use Prim.Native.Nat.{ℕ, zero, suc, ◌-◌, ◌≤◌}
-use mathlib.Core.Path.{◌≡◌, refl, sym, ap, ◌∙◌}
+use Prim.Native.Nat.{ℕ, ◌-◌, ◌≤◌}
+use mathlib.Core.Path.{◌≡◌, ◌∙◌}
 use mathlib.Core.Bool.{Bool, true, false, not, cond, ◌&&◌, ◌||◌}
-use mathlib.Core.List.{List, [], ◌∷◌, append-nil}
+use mathlib.Core.List.{List, [], append-nil}
 use native.Mathlib.Omega.{arith}
-use borrow.Author.Tests.{eq-eqb}
 use lib.Dec.{eqb, lit≤}
-use lib.ListN.{length, set}
-use Rattle.numbers.specs.Lists.{at, padded}
+use lib.ListN.{length}
+use Rattle.numbers.specs.Lists.{padded}
 use Rattle.numbers.proofs.Laws.{by_cases}
 use Rattle.calendar.specs.declared.Date.{Date}
 use Rattle.calendar.specs.Calendar.{is_month, open_hours}
@@ -18,40 +17,31 @@ use Rattle.record.specs.declared.Record.{Record}
 use Rattle.store.specs.Store.{as_row, with_hours, written_in, store_fits}
 use Rattle.store.proofs.Laws.{length_row, length_put, written_in_lem}
 use Rattle.rules.specs.declared.Figures.{Figures}
-use Rattle.rules.specs.Calls.{Call, closing}
+use Rattle.rules.specs.Calls.{closing}
+use Rattle.rules.specs.Grounds.{ground_number}
 use Rattle.rules.specs.Rules.{Outcome, days_in, rules, becomes_past, figures}
 use Rattle.rules.specs.Right.{Right}
 use Rattle.model.specs.Refusals.{refuse, refuse_anyone, own_refusal}
-use Rattle.model.specs.Model.{State, state, inputs, point_after, store_after, closed_with, accept, refusal, accepted, leaves, figures_of, hours_out}
+use Rattle.model.specs.Model.{State, state, inputs, point_after, store_after, closed_with, accept, refusal, leaves, figures_of, hours_out}
 use Rattle.model.specs.Model.{answer, buffer_after, Does}
 use Rattle.model.proofs.Closes.{row_few}
 use Rattle.grounds.specs.declared.Found.{Found}
 use Rattle.grounds.specs.Found.{OutcomeFound}
-use Rattle.first_ground.proofs.Laws.{capacity_row, capacity_within}
+use Rattle.model.proofs.Laws.{is_accepted}
+use Rattle.first_ground.proofs.Laws.{Known, known, capacity_row, capacity_within}
 
 -- 40 to 45, and before them 1 to 3; the words are judged where the store has its length
 pub number_is : (r : Record) (store marks buffer : List ℕ)
-    → refuse_anyone (length store) r
+    → refusal (state r store) (closing marks buffer)
+    ≡ refuse_anyone (length store) r
     (refuse (not (eqb (length marks) (open_hours r.date))) 40
     (refuse (survey_of marks).high 41
     (refuse (survey_of marks).crowded 42
     (refuse (survey_of marks).unmatched 43
     (refuse (not (eqb (length buffer) 744)) 44
     (refuse (not (eqb (length store) 10416 && store_fits store)) 45 0))))))
-    ≡ refusal (state r store) (closing marks buffer)
 unfolding refusal own_refusal survey_of survey_with refuse
 number_is r store marks buffer = by_cases (eqb (length store) 10416) (λ t. rw t) (λ f. rw f)
-
--- a word that is set to itself
-set_at_itself : (xs : List ℕ) (k : ℕ) → set xs k (at xs k) ≡ xs
-set_at_itself [] k = refl
-set_at_itself (x ∷ xs) zero = refl
-set_at_itself (x ∷ xs) (suc k) = ap (λ (ys : List ℕ). x ∷ ys) (set_at_itself xs k)
-
--- the years of the rows: a new year in its row, or the same years
-pub years_are : (new : Bool) (xs : List ℕ) (k y : ℕ) → set xs k (cond new y (at xs k)) ≡ cond new (set xs k y) xs
-years_are true xs k y = refl
-years_are false xs k y = set_at_itself xs k
 
 -- a row that is already whole
 row_again : (hs : List ℕ) → length hs ≤ 744 → as_row (as_row hs) ≡ as_row hs
@@ -84,15 +74,15 @@ unfolding closed_with
 store_left u s l = rw (row_again u.hours l)
 
 -- A CLOSING THAT IS ACCEPTED
-pub is_accepted : (s : State) (c : Call) {n : ℕ} → n ≡ refusal s c → n ≡ 0 → accepted s c ≡ true
-unfolding accepted
-is_accepted s c e z = eq-eqb (refusal s c) 0 (sym e ∙ z)
+-- what an accepted closing knows of its record and buffers
+pub taken : (r : Record) (store marks buffer : List ℕ) → 0 ≡ refusal (state r store) (closing marks buffer) → Known r store marks buffer
+taken r store marks buffer e = known r store marks buffer (is_accepted _ _ e)
 
 -- the figures that the code works out from the buffer
 figures_are : (u : Outcome) (marks : List ℕ) (t : ℕ) {f : Found} {hours : List ℕ} {c : Kwh} {d : ℕ} {g : Figures} → Right t u → t ≤ 744
     → OutcomeFound u f hours
     → c.0 ≡ capacity_sum marks hours → d ≡ days_in marks
-    → g ≡ record { ground = f.ground; volume = f.volume; capacity = record { 0 = capacity_in c.0 d }; sum = c; days = d } → g ≡ figures u marks
+    → g ≡ record { ground = ground_number f.ground; volume = f.volume; capacity = record { 0 = capacity_in c.0 d }; sum = c; days = d } → g ≡ figures u marks
 unfolding figures
 figures_are u marks t {hours = hours} {c = c} right few found total days e =
     let long : length u.hours ≤ 744 = omega (arith, right.long) in
@@ -102,27 +92,26 @@ figures_are u marks t {hours = hours} {c = c} right few found total days e =
     e ∙ rw (same, days, found.ground, found.volume, capacity_uncut (capacity_sum marks u.hours) (days_in marks) small)
 
 -- figures are the record of their parts
-pub figures_whole : (f : Found) (c : Kwh) (d : ℕ) {g : Figures} → g.ground ≡ f.ground → g.volume ≡ f.volume
+pub figures_whole : (f : Found) (c : Kwh) (d : ℕ) {g : Figures} → g.ground ≡ ground_number f.ground → g.volume ≡ f.volume
     → g.capacity.0 ≡ capacity_in c.0 d → g.sum ≡ c → g.days ≡ d
-    → g ≡ record { ground = f.ground; volume = f.volume; capacity = record { 0 = capacity_in c.0 d }; sum = c; days = d }
+    → g ≡ record { ground = ground_number f.ground; volume = f.volume; capacity = record { 0 = capacity_in c.0 d }; sum = c; days = d }
 figures_whole f c d a b e s t = rw (← a, ← b, ← e, ← s, ← t)
 
-pub closed_does : (s : State) (marks buffer : List ℕ) {number t : ℕ} → number ≡ refusal s (closing marks buffer) → number ≡ 0
+pub closed_does : (s : State) (marks buffer : List ℕ) {t : ℕ} → 0 ≡ refusal s (closing marks buffer)
     → Right t (rules (inputs s marks)) → t ≤ 744
     → {f : Found} {hours store : List ℕ} {c : Kwh} {d : ℕ} {g : Figures} {new : Bool} {r : Record} → OutcomeFound (rules (inputs s marks)) f hours
     → c.0 ≡ capacity_sum marks hours → d ≡ days_in marks
-    → g ≡ record { ground = f.ground; volume = f.volume; capacity = record { 0 = capacity_in c.0 d }; sum = c; days = d }
-    → new ≡ (eqb f.ground 1 || eqb f.ground 2) → r ≡ point_after new f.volume.0 s.point
+    → g ≡ record { ground = ground_number f.ground; volume = f.volume; capacity = record { 0 = capacity_in c.0 d }; sum = c; days = d }
+    → new ≡ (eqb (ground_number f.ground) 1 || eqb (ground_number f.ground) 2) → r ≡ point_after new f.volume.0 s.point
     → store ≡ store_after new hours s.point.date s.store
     → Does s (closing marks buffer) (record { refusal = 0; after = r; figures = g }) store hours
 unfolding answer leaves buffer_after figures_of hours_out accept closed_with becomes_past
-closed_does s marks buffer e z right few {new = n} found total days figs past after left =
-    let t = is_accepted s (closing marks buffer) e z in
-    let none : refusal s (closing marks buffer) ≡ 0 = sym e ∙ z in
+closed_does s marks buffer e right few {new = n} found total days figs past after left =
+    let t = is_accepted s (closing marks buffer) e in
     let u = rules (inputs s marks) in
     let new : n ≡ becomes_past u = past ∙ rw found.ground in
     record {
-      answered = rw (t, none, ← figures_are u marks _ right few found total days figs, after, new, found.volume);
+      answered = rw (t, ← e, ← figures_are u marks _ right few found total days figs, after, new, found.volume);
       left = left ∙ rw (t, new, found.hours) (store_left u s (omega (arith, right.long)));
       buffered = rw t found.hours;
     }

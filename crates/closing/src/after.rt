@@ -6,27 +6,24 @@ ghost use Rattle.store.specs.Store.{with_hours};
 ghost use Rattle.model.specs.Model.{past_after, point_after, store_after};
 
 use calendar::{Date, month_number, next_month};
-use numbers::{pick, pick_wide};
-use record::changes::no_readings;
-use record::{Past, Record};
+use record::{Past, Readings, Record, Service};
 use store::{clear_row, write_row};
 use units::Kwh;
 
 // Where the month becomes the past: its year in its row, and the latest past month.
-#[tactic(auto, using(calendar::proofs::Laws::limits, crate::proofs::Leaves::years_are))]
+#[tactic(auto, using(calendar::proofs::Laws::limits))]
 fn past_after(new: bool, p: Past, d: Date) -> Past
     requires { is_month d ≡ true }
     ensures { result ≡ past_after new p d }
 {
-    let row = (d.month - 1) as usize;
+    if !new {
+        return p;
+    }
     let mut years = p.years;
-    let year = pick(new, d.year, years[row]);
-    years[row] = year;
-    let before = p.latest;
-    let latest = pick_wide(new, month_number(d), before);
+    years[(d.month - 1) as usize] = d.year;
     Past {
-        years: years,
-        latest: latest,
+        years,
+        latest: month_number(d),
     }
 }
 
@@ -37,18 +34,15 @@ pub(crate) fn point_after(r: Record, new: bool, volume: Kwh) -> Record
     requires { (is_month r.date ≡ true) × (r.service.run ≤ 12000) × (r.total.0 ≤ greatest_total) × (volume.0 ≤ greatest_month_volume) }
     ensures { result ≡ point_after new volume.0 r }
 {
-    let date = next_month(r.date);
-    let run = pick(new, 0, r.service.run + 1);
-    let past = past_after(new, r.past, r.date);
-    let none = no_readings();
-    let total = Kwh(r.total.0 + volume.0);
-    let mut after = r;
-    after.date = date;
-    after.service.run = run;
-    after.past = past;
-    after.readings = none;
-    after.total = total;
-    after
+    let run = if new { 0 } else { r.service.run + 1 };
+    Record {
+        date: next_month(r.date),
+        service: Service { run, ..r.service },
+        past: past_after(new, r.past, r.date),
+        readings: Readings::default(),
+        total: Kwh(r.total.0 + volume.0),
+        ..r
+    }
 }
 
 // The hours become their month's row where the month becomes the past.

@@ -2,7 +2,7 @@
 #![tactic(auto)]
 
 ghost use Rattle.std.specs.Prelude.{◌≡◌};
-ghost use Rattle.contract.specs.Contract.{meters_fit, is_agreed, no_cable, keeping};
+ghost use Rattle.contract.specs.Contract.{meters_fit, is_agreed, keeping};
 
 use power::Cable;
 use units::Kw;
@@ -10,7 +10,7 @@ use units::Kw;
 // What the meters are and where the power comes from. The billing meter is 1 interval or 2 integral; the control meter
 // 0 none, 1 interval or 2 integral; the basis 1 an agreed power, 2 a share of an agreed power, 3 a cable.
 #[repr(C)]
-#[derive(Clone, Copy)]
+#[derive(Clone, Copy, PartialEq, Eq, Default)]
 pub struct Contract {
     pub billing: u32,
     pub control: u32,
@@ -23,26 +23,14 @@ pub struct Contract {
 pub fn meters_fit(c: Contract) -> bool
     ensures { result ≡ meters_fit c }
 {
-    ((c.billing == 1) | (c.billing == 2)) & (c.control <= 2)
+    matches!(c.billing, 1 | 2) & (c.control <= 2)
 }
 
 // Whether a basis has an agreed power: 1 and 2.
 pub fn is_agreed(basis: u32) -> bool
     ensures { result ≡ is_agreed basis }
 {
-    (basis == 1) | (basis == 2)
-}
-
-// The cable of a contract that has none.
-pub fn no_cable() -> Cable
-    ensures { result ≡ no_cable }
-{
-    Cable {
-        amperes: 0,
-        volts: 0,
-        cosine: 0,
-        phases: 0,
-    }
+    matches!(basis, 1 | 2)
 }
 
 // The contract that a point keeps: what was asked for, with the power P on basis 1 or 2 and the cable as given on basis
@@ -50,14 +38,15 @@ pub fn no_cable() -> Cable
 pub fn keep(asked: Contract, p: Kw) -> Contract
     ensures { result ≡ keeping asked p }
 {
-    let mut kept = asked;
     if asked.basis == 3 {
-        let power = Kw(0);
-        kept.power = power;
-        return kept;
+        return Contract {
+            power: Kw(0),
+            ..asked
+        };
     }
-    let cable = no_cable();
-    kept.power = p;
-    kept.cable = cable;
-    kept
+    Contract {
+        power: p,
+        cable: Cable::default(),
+        ..asked
+    }
 }

@@ -1,140 +1,155 @@
 // What the network firm reports: failures, admissions, denials of access and permissions.
 #![tactic(auto)]
 
-ghost use Rattle.std.specs.Prelude.{◌≡◌, [], ◌≤◌};
-ghost use Rattle.record.specs.Record.{not_given, with_readings, with_billing, with_denials};
-ghost use Rattle.store.specs.Store.{written_in};
+ghost use Rattle.std.specs.Prelude.{◌≡◌, [], length, ◌≤◌};
 ghost use Rattle.rules.specs.Calls.Call.{failure, admission, denial, permission};
-ghost use Rattle.model.specs.Refusals.{refuse_anyone, failure_number, admission_number, denial_number, permission_number};
-ghost use Rattle.model.specs.Model.{state, after_failure, without_figures, Does};
+ghost use Rattle.model.specs.Model.{state, discarded, after_failure, Does};
+ghost use Rattle.model.specs.Refused.{Gives};
+ghost use Rattle.events.specs.Failures.{reason_number, FindsReason};
 
 use calendar::{Date, month_number};
-use model::{Answer, answer_with, refuse_anyone, refuse_if};
-use numbers::{pick, pick_wide};
-use record::changes::{not_given, with_billing};
-use record::{Record, Service};
+use model::refusals::{Refusal, check_anyone, refuse_if};
+use model::{Answer, answer_of};
+use record::{Reading, ReadingOf, Record, Service};
 use store::clear_row;
 
+// Why a billing meter fails.
+#[derive(Clone, Copy, Debug, PartialEq, Eq)]
+enum Reason {
+    Fault,
+    Loss,
+    VerificationOver,
+    TakenDown,
+}
+
+// Number 31 where no reason has the number.
+#[tactic(auto, unfolding(model::proofs::Laws::call_definitions))]
+impl TryFrom<u32> for Reason {
+    type Error = Refusal;
+
+    ghost try_from_gives = { FindsReason };
+
+    fn try_from(number: u32) -> Result<Reason, Refusal> {
+        match number {
+            1 => Ok(Reason::Fault),
+            2 => Ok(Reason::Loss),
+            3 => Ok(Reason::VerificationOver),
+            4 => Ok(Reason::TakenDown),
+            _ => Err(Refusal::UnknownReason),
+        }
+    }
+}
+
 // This month's billing reading is no longer given: its volume and row 12 become 0.
-fn discard(r: Record, store: &mut [u32]) -> Answer
-    ensures { (result ≡ without_figures 0 (with_readings r (with_billing r.readings not_given))) × (store.new ≡ written_in 12 [] store.old) }
+#[tactic(auto, using(store::proofs::Laws::written_in_lem))]
+fn discard(r: Record, store: &mut [u32]) -> Record
+    requires { length store.old ≡ 10416 }
+    ensures { state result store.new ≡ discarded (state r store.old) }
 {
     clear_row(store, 12);
-    answer_with(0, with_billing(r, not_given()))
+    r.with_reading(ReadingOf::Billing, Reading::default())
 }
 
 // Out of service. A fault or loss at most 12 months after an earlier one makes the run 0, and in any case its month is
 // kept as the last.
-fn after_failure(s: Service, d: Date, reason: u32) -> Service
+fn after_failure(s: Service, d: Date, reason: Reason) -> Service
     requires { s.fault ≤ 36000 }
-    ensures { result ≡ after_failure s d reason }
+    ensures { result ≡ after_failure s d (reason_number reason) }
 {
-    let fault = (reason == 1) | (reason == 2);
     let month = month_number(d);
-    let repeat = fault & ((s.fault != 0) & (month <= s.fault + 12));
-    let run = pick(repeat, 0, s.run);
-    let last = pick_wide(fault, month, s.fault);
+    let fault = matches!(reason, Reason::Fault | Reason::Loss);
+    let repeat = fault && s.fault != 0 && month <= s.fault + 12;
     Service {
-        run: run,
+        run: if repeat { 0 } else { s.run },
         serving: 0,
-        denials: s.denials,
-        fault: last,
+        fault: if fault { month } else { s.fault },
+        ..s
     }
 }
 
-fn failure_refusal(words: usize, r: Record, reason: u32) -> u32
-    ensures { result ≡ refuse_anyone words r (failure_number r reason) }
+#[tactic(auto, using(validity::proofs::Laws::fault_most), unfolding(model::proofs::Laws::call_definitions))]
+fn try_fail(r: Record, store: &mut [u32], reason: u32) -> Result<Record, Refusal>
+    ensures { Gives (state r store.old) (failure reason) result store.new }
 {
-    let n = refuse_if(!((1 <= reason) & (reason <= 4)), 31, 0);
-    let n = refuse_if(!(r.service.serving == 1), 30, n);
-    refuse_anyone(words, r, n)
+    check_anyone(store.len(), r)?;
+    refuse_if(r.service.serving != 1, Refusal::OutOfService)?;
+    let reason = Reason::try_from(reason)?;
+    let service = after_failure(r.service, r.date, reason);
+    Ok(discard(Record { service, ..r }, store))
 }
 
 // A failure of the billing meter: 1 fault, 2 loss, 3 verification interval over, 4 taken down.
+#[tactic(auto, using(model::proofs::Laws::call_does), unfolding(model::proofs::Laws::call_definitions))]
 pub fn fail(r: Record, store: &mut [u32], reason: u32) -> Answer
     ensures { Does (state r store.old) (failure reason) result store.new [] }
 {
-    let n = failure_refusal(store.len(), r, reason);
-    if n != 0 {
-        return answer_with(n, r);
-    }
-    let service = after_failure(r.service, r.date, reason);
-    let mut after = r;
-    after.service = service;
-    discard(after, store)
+    answer_of(try_fail(r, store, reason), r)
 }
 
-fn admission_refusal(words: usize, r: Record) -> u32
-    ensures { result ≡ refuse_anyone words r (admission_number r) }
+#[tactic(auto, unfolding(model::proofs::Laws::call_definitions))]
+fn try_admit(r: Record, store: &[u32]) -> Result<Record, Refusal>
+    ensures { Gives (state r store.now) admission result store.now }
 {
-    refuse_anyone(words, r, refuse_if(r.service.serving == 1, 32, 0))
+    check_anyone(store.len(), r)?;
+    refuse_if(r.service.serving == 1, Refusal::InService)?;
+    let service = Service {
+        serving: 1,
+        ..r.service
+    };
+    Ok(Record { service, ..r })
 }
 
 // The billing meter is back in service.
+#[tactic(auto, using(model::proofs::Laws::call_does), unfolding(model::proofs::Laws::call_definitions))]
 pub fn admit(r: Record, store: &[u32]) -> Answer
     ensures { Does (state r store.now) admission result store.now [] }
 {
-    let n = admission_refusal(store.len(), r);
-    if n != 0 {
-        return answer_with(n, r);
-    }
-    let mut after = r;
-    after.service.serving = 1;
-    answer_with(0, after)
+    answer_of(try_admit(r, store), r)
 }
 
-fn denial_refusal(words: usize, r: Record) -> u32
-    ensures { result ≡ refuse_anyone words r (denial_number r) }
+#[tactic(auto, using(validity::proofs::Laws::denials_most), unfolding(model::proofs::Laws::call_definitions))]
+fn try_deny(r: Record, store: &mut [u32]) -> Result<Record, Refusal>
+    ensures { Gives (state r store.old) denial result store.new }
 {
-    refuse_anyone(words, r, refuse_if(r.service.denials == 2, 33, 0))
+    check_anyone(store.len(), r)?;
+    refuse_if(r.service.denials == 2, Refusal::TwoDenials)?;
+    let denials = r.service.denials + 1;
+    let service = Service {
+        denials,
+        ..r.service
+    };
+    let after = Record { service, ..r };
+    if denials == 2 {
+        return Ok(discard(after, store));
+    }
+    Ok(after)
 }
 
 // Access to the meter was denied once more. The second denial discards this month's billing reading.
+#[tactic(auto, using(model::proofs::Laws::call_does), unfolding(model::proofs::Laws::call_definitions))]
 pub fn deny(r: Record, store: &mut [u32]) -> Answer
     ensures { Does (state r store.old) denial result store.new [] }
 {
-    let n = denial_refusal(store.len(), r);
-    if n != 0 {
-        return answer_with(n, r);
-    }
-    let before = r.service.denials;
-    let more = before + 1;
-    let mut after = r;
-    after.service.denials = more;
-    if before == 1 {
-        return discard(after, store);
-    }
-    answer_with(0, after)
+    answer_of(try_deny(r, store), r)
 }
 
-// No denial counts any more, and all else stays.
-fn after_permission(s: Service) -> Service
-    ensures { result ≡ with_denials s 0 }
+#[tactic(auto, unfolding(model::proofs::Laws::call_definitions))]
+fn try_permit(r: Record, store: &[u32]) -> Result<Record, Refusal>
+    ensures { Gives (state r store.now) permission result store.now }
 {
-    Service {
-        run: s.run,
-        serving: s.serving,
+    check_anyone(store.len(), r)?;
+    refuse_if(r.service.denials == 0, Refusal::NoDenial)?;
+    let service = Service {
         denials: 0,
-        fault: s.fault,
-    }
-}
-
-fn permission_refusal(words: usize, r: Record) -> u32
-    ensures { result ≡ refuse_anyone words r (permission_number r) }
-{
-    refuse_anyone(words, r, refuse_if(r.service.denials == 0, 34, 0))
+        ..r.service
+    };
+    Ok(Record { service, ..r })
 }
 
 // Access to the meter is given again: no denial counts any more.
+#[tactic(auto, using(model::proofs::Laws::call_does), unfolding(model::proofs::Laws::call_definitions))]
 pub fn permit(r: Record, store: &[u32]) -> Answer
     ensures { Does (state r store.now) permission result store.now [] }
 {
-    let n = permission_refusal(store.len(), r);
-    if n != 0 {
-        return answer_with(n, r);
-    }
-    let service = after_permission(r.service);
-    let mut after = r;
-    after.service = service;
-    answer_with(0, after)
+    answer_of(try_permit(r, store), r)
 }

@@ -2,14 +2,15 @@
 use Prim.Native.Nat.{ℕ, ◌-◌, ◌*◌, ◌≤◌, ◌<◌, min}
 use mathlib.Core.Path.{◌≡◌, sym, subst, ◌∙◌}
 use mathlib.Core.Logic.{◌≢◌}
-use mathlib.Core.Bool.{Bool, true, false, cond}
+use mathlib.Core.Bool.{Bool, true, false}
 use mathlib.Core.List.{List}
 use native.Mathlib.Nat.{mul-le-mul}
 use native.Mathlib.Omega.{arith}
 use borrow.Author.Tests.{eq-eqb, ne_eqb, le-leb, lt-leb}
 use lib.ListN.{length}
+use Rattle.std.specs.Prelude.{Option, None, Some}
 use Rattle.numbers.specs.Lists.{tab, sum}
-use Rattle.numbers.proofs.Laws.{by_cases, length_tab}
+use Rattle.numbers.proofs.Laws.{length_tab}
 use Rattle.calendar.specs.Calendar.{open_hours}
 use Rattle.units.specs.Volumes.{greatest_volume_read}
 use Rattle.sharing.specs.Shares.{ones, every, shares, past_at, stretched}
@@ -23,23 +24,28 @@ use Rattle.contract.specs.declared.Contract.{Contract}
 use Rattle.contract.specs.Contract.{power_of}
 use Rattle.record.specs.declared.Reading.{Reading}
 use Rattle.record.specs.declared.Record.{Record}
-use Rattle.record.specs.Record.{is_set}
 use Rattle.store.specs.Store.{as_row}
 use Rattle.store.proofs.Laws.{length_row}
-use Rattle.rules.specs.Rules.{Measured, missing, hourly, whole, PastHours, no_past_hours, past_hours, Inputs, point_power, neighbour_of, as_read}
+use Rattle.rules.specs.Rules.{Measured, missing, hourly, whole, PastHours, Inputs, point_power, neighbour_of, as_read}
 use Rattle.rules.specs.Rules.{by_weights, by_peaks, evenly, by_contract, on_past, ground_six, ground_six_in, on_control_past, on_control, on_billing, rules}
 use Rattle.model.specs.Model.{state, measured_in, stated_in, inputs}
 use Rattle.grounds.specs.declared.Found.{Found}
-use Rattle.grounds.specs.declared.past.PastMonth.{PastMonth}
+use Rattle.grounds.specs.declared.past_month.PastMonth.{PastMonth}
 use Rattle.first_ground.proofs.Laws.{Known, peaks_are, capacity_row, capacity_within}
 use Rattle.grounds.specs.Found.{HoursFound, OutcomeFound, hours_from, PastFound}
 
 -- N, as the record holds the two neighbour readings
-pub neighbour_is : (g h : Reading)
-    → cond (is_set g.given) g.volume.0 (cond (is_set h.given) h.volume.0 0) ≡ neighbour_of (stated_in g) (stated_in h)
+pub neighbour_first : (g h : Reading) → g.given ≡ 1 → g.volume.0 ≡ neighbour_of (stated_in g) (stated_in h)
 unfolding stated_in neighbour_of
-neighbour_is g h =
-    by_cases (is_set g.given) (λ t. rw t) (λ f. rw f (by_cases (is_set h.given) (λ t. rw t) (λ n. rw n)))
+neighbour_first g h given = rw given
+
+pub neighbour_second : (g h : Reading) → g.given ≢ 1 → h.given ≡ 1 → h.volume.0 ≡ neighbour_of (stated_in g) (stated_in h)
+unfolding stated_in neighbour_of
+neighbour_second g h not given = rw (ne_eqb g.given 1 not, given)
+
+pub neighbour_none : (g h : Reading) → g.given ≢ 1 → h.given ≢ 1 → 0 ≡ neighbour_of (stated_in g) (stated_in h)
+unfolding stated_in neighbour_of
+neighbour_none g h not none = rw (ne_eqb g.given 1 not, ne_eqb h.given 1 none)
 
 module _ (i : Inputs) {f : Found} {buffer : List ℕ} where
   -- GROUNDS 8 AND 9
@@ -54,40 +60,40 @@ module _ (i : Inputs) {f : Found} {buffer : List ℕ} where
   eight_outcome b e h = rw (ne_eqb i.contract.basis 3 b) (rw e at h)
 
   -- GROUND 7, else 8 and 9
-  pub seven_outcome : (hs : List ℕ) → i.past ≡ past_hours hs → i.counted ≤ 2 → {t : ℕ} → t ≡ open_hours i.date
+  pub seven_outcome : (hs : List ℕ) → i.past ≡ Some hs → i.counted ≤ 2 → {t : ℕ} → t ≡ open_hours i.date
       → HoursFound 7 (sum (stretched hs t)) (stretched hs t) f buffer → OutcomeFound (on_past i i.past) f buffer
   unfolding on_past as_read
   seven_outcome hs past few e h = subst (λ (x : PastHours). OutcomeFound (on_past i x) f buffer) (sym past) (rw (le-leb i.counted 2 few) (rw e at h))
 
-  pub late_outcome : (hs : List ℕ) → i.past ≡ past_hours hs → 2 < i.counted → OutcomeFound (by_contract i) f buffer
+  pub late_outcome : (hs : List ℕ) → i.past ≡ Some hs → 2 < i.counted → OutcomeFound (by_contract i) f buffer
       → OutcomeFound (on_past i i.past) f buffer
   unfolding on_past
   late_outcome hs past many h = subst (λ (x : PastHours). OutcomeFound (on_past i x) f buffer) (sym past) (rw (lt-leb i.counted 2 many) h)
 
-  pub none_outcome : i.past ≡ no_past_hours → OutcomeFound (by_contract i) f buffer → OutcomeFound (on_past i i.past) f buffer
+  pub none_outcome : i.past ≡ None → OutcomeFound (by_contract i) f buffer → OutcomeFound (on_past i i.past) f buffer
   unfolding on_past
   none_outcome past h = subst (λ (x : PastHours). OutcomeFound (on_past i x) f buffer) (sym past) h
 
   -- GROUNDS 4 TO 6, of the volume v
-  pub five_outcome : (v : ℕ) → i.past ≡ no_past_hours → HoursFound 5 v (peak_rule v (point_power i) i.marks) f buffer
+  pub five_outcome : (v : ℕ) → i.past ≡ None → HoursFound 5 v (peak_rule v (point_power i) i.marks) f buffer
       → OutcomeFound (on_control_past i v i.past) f buffer
   unfolding on_control_past by_peaks
   five_outcome v past h = subst (λ (x : PastHours). OutcomeFound (on_control_past i v x) f buffer) (sym past) h
 
-  pub four_outcome : (v : ℕ) (hs : List ℕ) → i.past ≡ past_hours hs → i.counted ≤ 2 → {t : ℕ} → t ≡ open_hours i.date
+  pub four_outcome : (v : ℕ) (hs : List ℕ) → i.past ≡ Some hs → i.counted ≤ 2 → {t : ℕ} → t ≡ open_hours i.date
       → HoursFound 4 v (shares v (stretched hs t)) f buffer → OutcomeFound (on_control_past i v i.past) f buffer
   unfolding on_control_past by_weights
   four_outcome v hs past few e h =
       subst (λ (x : PastHours). OutcomeFound (on_control_past i v x) f buffer) (sym past) (rw (le-leb i.counted 2 few) (rw e at h))
 
-  pub six_outcome : (v : ℕ) (hs : List ℕ) → i.past ≡ past_hours hs → 2 < i.counted
+  pub six_outcome : (v : ℕ) (hs : List ℕ) → i.past ≡ Some hs → 2 < i.counted
       → ground_six_in i v (shares v (stretched hs (open_hours i.date))) ≡ true
       → HoursFound 6 v (shares v (stretched hs (open_hours i.date))) f buffer → OutcomeFound (on_control_past i v i.past) f buffer
   unfolding on_control_past by_weights
   six_outcome v hs past many fits h =
       subst (λ (x : PastHours). OutcomeFound (on_control_past i v x) f buffer) (sym past) (rw (lt-leb i.counted 2 many, fits) h)
 
-  pub later_outcome : (v : ℕ) (hs : List ℕ) → i.past ≡ past_hours hs → 2 < i.counted
+  pub later_outcome : (v : ℕ) (hs : List ℕ) → i.past ≡ Some hs → 2 < i.counted
       → ground_six_in i v (shares v (stretched hs (open_hours i.date))) ≡ false
       → HoursFound 5 v (peak_rule v (point_power i) i.marks) f buffer → OutcomeFound (on_control_past i v i.past) f buffer
   unfolding on_control_past by_peaks
@@ -123,15 +129,15 @@ module _ (i : Inputs) {f : Found} {buffer : List ℕ} where
   control_outcome e h = subst (λ (x : Measured). OutcomeFound (on_billing i x) f buffer) (sym e) h
 
 -- THE INPUTS, as the record tells them
-pub inputs_past : (r : Record) (store marks : List ℕ) (p : PastMonth) → PastFound r p → p.found ≡ true
-    → (inputs (state r store) marks).past ≡ past_hours (row_part store p.row p.hours)
+pub inputs_past : (r : Record) (store marks : List ℕ) (p : PastMonth) {o : Option PastMonth} → PastFound r o → o ≡ Some p
+    → (inputs (state r store) marks).past ≡ Some (row_part store p.row p.hours)
 unfolding inputs hours_from
-inputs_past r store marks p past found = past.same store ∙ rw found
+inputs_past r store marks p past found = past store ∙ rw found
 
-pub inputs_no_past : (r : Record) (store marks : List ℕ) (p : PastMonth) → PastFound r p → p.found ≡ false
-    → (inputs (state r store) marks).past ≡ no_past_hours
+pub inputs_no_past : (r : Record) (store marks : List ℕ) {o : Option PastMonth} → PastFound r o → o ≡ None
+    → (inputs (state r store) marks).past ≡ None
 unfolding inputs hours_from
-inputs_no_past r store marks p past lost = past.same store ∙ rw lost
+inputs_no_past r store marks past lost = past store ∙ rw lost
 
 pub is_hourly : (kind : ℕ) (g : Reading) (hs : List ℕ) → g.given ≡ 1 → kind ≡ 1 → measured_in kind g hs ≡ hourly hs
 unfolding measured_in

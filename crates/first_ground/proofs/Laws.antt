@@ -7,8 +7,8 @@ use native.Mathlib.Nat.{not-suc-le-zero}
 use native.Mathlib.Omega.{arith}
 use borrow.Author.Tests.{eq-eqb, leb-true}
 use lib.Dec.{eqb, lit≤}
-use lib.ListN.{length}
-use Rattle.numbers.specs.Lists.{sum_to, count_to, sum, at}
+use lib.ListN.{length, length-replicate}
+use Rattle.numbers.specs.Lists.{sum_to, count_to, sum, at, zeros}
 use Rattle.numbers.proofs.Laws.{cond_most, sum_same, sum_most, sum_stop, sum_at}
 use Rattle.calendar.specs.declared.Date.{Date}
 use Rattle.calendar.specs.Calendar.{is_month, open_hours}
@@ -25,10 +25,12 @@ use Rattle.store.specs.Store.{as_row, store_fits}
 use Rattle.store.proofs.Laws.{at_row}
 use Rattle.rules.specs.Calls.{closing}
 use Rattle.rules.specs.Right.{InputsFit}
-use Rattle.model.specs.Model.{state, inputs, accepted}
+use Rattle.model.specs.Refusals.{own_refusal}
+use Rattle.model.specs.Model.{State, state, inputs, refusal, accepted}
 use Rattle.model.proofs.Keeps.{call_passed, open_month}
 use Rattle.model.proofs.Closes.{settled, volume_most, inputs_fit}
 use Rattle.grounds.specs.Found.{BuffersFit}
+use Rattle.first_ground.specs.declared.month.ClosingMonth.{ClosingMonth}
 
 pub record Known (r : Record) (store marks buffer : List ℕ) : Type 0 where
   pub sound : valid r ≡ true
@@ -74,6 +76,26 @@ known r store marks buffer t =
       run = (service_parts r.service r.date v.service).run;
       total = leb-true _ _ v.total;
     }
+
+-- of the hour buffer only its length counts
+accepted_room : (s : State) (marks before buffer : List ℕ) → length before ≡ 744 → length buffer ≡ 744
+    → accepted s (closing marks before) ≡ true → accepted s (closing marks buffer) ≡ true
+unfolding accepted refusal own_refusal
+accepted_room s marks before buffer e f t = rw f (rw e at t)
+
+pub passed_in : (r : Record) (store marks buffer : List ℕ) → accepted (state r store) (closing marks buffer) ≡ true
+    → accepted (state r store) (closing marks (zeros 744)) ≡ true
+passed_in r store marks buffer t =
+    accepted_room _ _ _ _ (known r store marks buffer t).buffers.room (length-replicate {A = ℕ} 744 0) t
+
+pub known_in : (m : ClosingMonth) {buffer : List ℕ} → length buffer ≡ 744 → Known m.point m.store.now m.marks.now buffer
+known_in m e = known _ _ _ _ (accepted_room _ _ _ _ (length-replicate {A = ℕ} 744 0) e m.passed)
+
+pub cable_known : (m : ClosingMonth) → m.point.contract.basis ≡ 3 → cable_fits m.point.contract.cable ≡ true
+cable_known m = (known_in m {buffer = zeros 744} (length-replicate {A = ℕ} 744 0)).cable
+
+pub run_known : (m : ClosingMonth) → m.point.service.run ≤ 12000
+run_known m = (known_in m {buffer = zeros 744} (length-replicate {A = ℕ} 744 0)).run
 
 -- as many marks as hours
 pub marks_some : {r : Record} {store marks buffer : List ℕ} → Known r store marks buffer → 1 ≤ length marks

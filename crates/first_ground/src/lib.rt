@@ -2,28 +2,28 @@
 // 5, 7, 8, 9.
 #![tactic(auto)]
 
-ghost use Rattle.std.specs.Prelude.{◌≡◌, true, ◌-◌, ◌*◌, ◌≤◌, min};
+ghost use Rattle.std.specs.Prelude.{◌≡◌, true, ◌-◌, ◌*◌, ◌≤◌, min, length};
+ghost use Rattle.calendar.specs.Calendar.{open_hours};
 ghost use Rattle.units.specs.Volumes.{greatest_volume_read};
 ghost use Rattle.power.specs.Power.{cable_fits};
-ghost use Rattle.marks.specs.Marks.{survey_of};
 ghost use Rattle.contract.specs.Contract.{power_of};
-ghost use Rattle.rules.specs.Calls.Call.{closing};
 ghost use Rattle.rules.specs.Rules.{counted_of, neighbour_of, ground_six, by_contract, on_past, on_control_past, on_control, rules};
-ghost use Rattle.model.specs.Model.{state, stated_in, inputs, accepted};
+ghost use Rattle.model.specs.Model.{stated_in};
 ghost use Rattle.grounds.specs.Found.{OutcomeFound};
+ghost use Rattle.first_ground.specs.Month.{inputs_of};
+
+mod month;
 
 use calendar::open_hours;
 use contract::Contract;
+use grounds::hours::{as_past, as_read, by_past, by_peaks};
 use grounds::past::find_past;
-use grounds::{
-    Found, ground_eight, ground_five, ground_four, ground_nine, ground_one, ground_seven,
-    ground_six, ground_three, ground_two,
-};
+use grounds::{Found, ground_eight, ground_nine};
 use marks::peak::peak_part;
 use marks::{Survey, capacity_sum};
-use numbers::{pick, pick_wide};
-use power::cable_power;
-use record::{Readings, Record, Service};
+pub use month::ClosingMonth;
+use record::{Readings, Service};
+use rules::Ground;
 use units::{Kw, Kwh};
 
 // R: the run plus 1, and 3 if that is less while denials are 2.
@@ -33,26 +33,28 @@ pub fn counted(s: Service) -> u32
     ensures { result ≡ counted_of s.run s.denials }
 {
     let next = s.run + 1;
-    pick((s.denials == 2) & (next < 3), 3, next)
+    if s.denials == 2 { next.max(3) } else { next }
 }
 
 // N: the first neighbour reading if given, else the second, else 0.
-#[tactic(auto, using(crate::proofs::Firsts::neighbour_is))]
+#[tactic(auto, using(crate::proofs::Firsts::neighbour_first, crate::proofs::Firsts::neighbour_second, crate::proofs::Firsts::neighbour_none))]
 pub fn neighbour_volume(g: Readings) -> Kwh
     ensures { result.0 ≡ neighbour_of (stated_in g.first) (stated_in g.second) }
 {
-    let second = pick_wide(g.second.given == 1, g.second.volume.0, 0);
-    Kwh(pick_wide(g.first.given == 1, g.first.volume.0, second))
+    if g.first.given == 1 {
+        g.first.volume
+    } else if g.second.given == 1 {
+        g.second.volume
+    } else {
+        Kwh(0)
+    }
 }
 
 // A reading less N, and 0 where that is below 0.
 pub fn less(volume: Kwh, neighbour: Kwh) -> Kwh
     ensures { result.0 ≡ volume.0 - neighbour.0 }
 {
-    if neighbour.0 < volume.0 {
-        return Kwh(volume.0 - neighbour.0);
-    }
-    Kwh(0)
+    Kwh(volume.0.saturating_sub(neighbour.0))
 }
 
 // P of the contract.
@@ -62,7 +64,7 @@ pub fn point_power(c: Contract) -> Kw
     ensures { result.0 ≡ power_of c }
 {
     if c.basis == 3 {
-        return cable_power(c.cable);
+        return c.cable.power();
     }
     c.power
 }
@@ -76,103 +78,114 @@ fn six_fits(volume: Kwh, power: Kw, survey: Survey, sum: Kwh) -> bool
     (0 < survey.peaks) & (a.0 * survey.days < survey.peaks * sum.0)
 }
 
-// Grounds 8 and 9: by the contract.
-fn by_contract(r: Record, store: &[u32], marks: &[u8], hours: &mut [u32]) -> Found
-    requires { accepted (state r store.now) (closing marks.now hours.old) ≡ true }
-    ensures { OutcomeFound (by_contract (inputs (state r store.now) marks.now)) result hours.new }
-{
-    let t = open_hours(r.date);
-    if r.contract.basis == 3 {
-        return ground_nine(r.contract.cable, t, hours);
+impl ClosingMonth<'_> {
+    // T.
+    fn hours(&self) -> usize
+        ensures { result ≡ open_hours self.now.point.date }
+    {
+        open_hours(self.point.date) as usize
     }
-    ground_eight(r.contract.power, t, hours)
-}
 
-// Grounds 7 to 9: no control reading.
-fn on_past(r: Record, store: &[u32], marks: &[u8], hours: &mut [u32]) -> Found
-    requires { accepted (state r store.now) (closing marks.now hours.old) ≡ true }
-    ensures { OutcomeFound
-        (on_past (inputs (state r store.now) marks.now) (inputs (state r store.now) marks.now).past) result
-        hours.new }
-{
-    let past = find_past(r);
-    if past.found {
-        if counted(r.service) <= 2 {
-            return ground_seven(store, past, open_hours(r.date) as usize, hours);
+    // P.
+    pub fn power(&self) -> Kw
+        ensures { result.0 ≡ power_of self.now.point.contract }
+    {
+        point_power(self.point.contract)
+    }
+
+    // R.
+    pub fn counted(&self) -> u32
+        ensures { result ≡ counted_of self.now.point.service.run self.now.point.service.denials }
+    {
+        counted(self.point.service)
+    }
+
+    // N.
+    pub fn neighbour(&self) -> Kwh
+        ensures { result.0 ≡ neighbour_of (stated_in self.now.point.readings.first) (stated_in self.now.point.readings.second) }
+    {
+        neighbour_volume(self.point.readings)
+    }
+
+    // Grounds 8 and 9: by the contract.
+    fn by_contract(&self, hours: &mut [u32]) -> Found
+        requires { length hours.old ≡ 744 }
+        ensures { OutcomeFound (by_contract (inputs_of self.now)) result hours.new }
+    {
+        let t = open_hours(self.point.date);
+        if self.point.contract.basis == 3 {
+            return ground_nine(self.point.contract.cable, t, hours);
         }
-        return by_contract(r, store, marks, hours);
+        ground_eight(self.point.contract.power, t, hours)
     }
-    by_contract(r, store, marks, hours)
-}
 
-// Grounds 4 to 6: the volume of an integral control meter.
-fn on_control_volume(
-    r: Record,
-    store: &[u32],
-    marks: &[u8],
-    survey: Survey,
-    hours: &mut [u32],
-) -> Found
-    requires hours_value { accepted (state r store.now) (closing marks.now hours.old) ≡ true }
-    requires survey_value { survey ≡ survey_of marks.now }
-    ensures { OutcomeFound
-        (on_control_past (inputs (state r store.now) marks.now)
-        (r.readings.control.volume.0 - (inputs (state r store.now) marks.now).neighbour)
-        (inputs (state r store.now) marks.now).past) result hours.new }
-{
-    let v = less(r.readings.control.volume, neighbour_volume(r.readings));
-    let p = point_power(r.contract);
-    let past = find_past(r);
-    if !past.found {
-        return ground_five(v, p, marks, hours);
-    }
-    let t = open_hours(r.date) as usize;
-    if counted(r.service) <= 2 {
-        return ground_four(v, store, past, t, hours);
-    }
-    // Ground 4's hours go into the buffer first, since C' is taken over them; where the test fails, ground 5 replaces them.
-    let six = ground_six(v, store, past, t, hours);
-    if six_fits(v, p, survey, capacity_sum(marks, hours)) {
-        return six;
-    }
-    ground_five(v, p, marks, hours)
-}
-
-// Grounds 3 to 9: no billing reading.
-fn on_control(r: Record, store: &[u32], marks: &[u8], survey: Survey, hours: &mut [u32]) -> Found
-    requires hours_value { accepted (state r store.now) (closing marks.now hours.old) ≡ true }
-    requires survey_value { survey ≡ survey_of marks.now }
-    ensures { OutcomeFound
-        (on_control (inputs (state r store.now) marks.now)
-        (inputs (state r store.now) marks.now).control) result hours.new }
-{
-    if r.readings.control.given == 1 {
-        if r.contract.control == 1 {
-            return ground_three(store, open_hours(r.date) as usize, hours);
+    // Grounds 7 to 9: no control reading.
+    fn on_past(&self, hours: &mut [u32]) -> Found
+        requires { length hours.old ≡ 744 }
+        ensures { OutcomeFound (on_past (inputs_of self.now) (inputs_of self.now).past) result hours.new }
+    {
+        let Some(past) = find_past(self.point) else {
+            return self.by_contract(hours);
+        };
+        let months = self.counted();
+        if months <= 2 {
+            return as_past(Ground::Past, self.store, past, self.hours(), hours);
         }
-        return on_control_volume(r, store, marks, survey, hours);
+        self.by_contract(hours)
     }
-    on_past(r, store, marks, hours)
-}
 
-// Grounds 1 to 9.
-pub fn first_ground(
-    r: Record,
-    store: &[u32],
-    marks: &[u8],
-    survey: Survey,
-    hours: &mut [u32],
-) -> Found
-    requires hours_value { accepted (state r store.now) (closing marks.now hours.old) ≡ true }
-    requires survey_value { survey ≡ survey_of marks.now }
-    ensures { OutcomeFound (rules (inputs (state r store.now) marks.now)) result hours.new }
-{
-    if r.readings.billing.given == 1 {
-        if r.contract.billing == 1 {
-            return ground_one(store, open_hours(r.date) as usize, hours);
+    // Grounds 4 to 6: the volume of an integral control meter.
+    fn on_control_volume(&self, hours: &mut [u32]) -> Found
+        requires { length hours.old ≡ 744 }
+        ensures { OutcomeFound
+            (on_control_past (inputs_of self.now)
+            (self.now.point.readings.control.volume.0 - (inputs_of self.now).neighbour) (inputs_of self.now).past) result hours.new }
+    {
+        let v = less(self.point.readings.control.volume, self.neighbour());
+        let p = self.power();
+        let Some(past) = find_past(self.point) else {
+            return by_peaks(Ground::ControlByPeaks, v, p, self.marks, hours);
+        };
+        let t = self.hours();
+        if self.counted() <= 2 {
+            return by_past(Ground::ControlByPast, v, self.store, past, t, hours);
         }
-        let v = less(r.readings.billing.volume, neighbour_volume(r.readings));
-        return ground_two(v, point_power(r.contract), marks, hours);
+        // Ground 4's hours go into the buffer first, since C' is taken over them; where the test fails, ground 5 replaces them.
+        let six = by_past(Ground::ControlByPastTested, v, self.store, past, t, hours);
+        if six_fits(v, p, self.survey, capacity_sum(self.marks, hours)) {
+            return six;
+        }
+        by_peaks(Ground::ControlByPeaks, v, p, self.marks, hours)
     }
-    on_control(r, store, marks, survey, hours)
+
+    // Grounds 3 to 9: no billing reading.
+    fn on_control(&self, hours: &mut [u32]) -> Found
+        requires { length hours.old ≡ 744 }
+        ensures { OutcomeFound (on_control (inputs_of self.now) (inputs_of self.now).control) result hours.new }
+    {
+        if self.point.readings.control.given == 1 {
+            if self.point.contract.control == 1 {
+                let t = self.hours();
+                return as_read(Ground::ControlHours, self.store, 13, t, hours);
+            }
+            return self.on_control_volume(hours);
+        }
+        self.on_past(hours)
+    }
+
+    // Grounds 1 to 9.
+    pub fn first_ground(&self, hours: &mut [u32]) -> Found
+        requires { length hours.old ≡ 744 }
+        ensures { OutcomeFound (rules (inputs_of self.now)) result hours.new }
+    {
+        if self.point.readings.billing.given == 1 {
+            if self.point.contract.billing == 1 {
+                let t = self.hours();
+                return as_read(Ground::BillingHours, self.store, 12, t, hours);
+            }
+            let v = less(self.point.readings.billing.volume, self.neighbour());
+            return by_peaks(Ground::BillingVolume, v, self.power(), self.marks, hours);
+        }
+        self.on_control(hours)
+    }
 }

@@ -3,7 +3,7 @@ use Prim.Native.Nat.{ℕ, ◌+◌, ◌-◌, ◌*◌, ◌≤◌, ◌<◌}
 use mathlib.Core.Path.{◌≡◌, refl, ◌∙◌}
 use mathlib.Core.Bool.{Bool, true, false, ◌&&◌}
 use mathlib.Core.List.{List}
-use native.Mathlib.Nat.{add-sub_cancel_left, sub-zero, mul_comm, mul-le-mul}
+use native.Mathlib.Nat.{add-sub_cancel_left, mul_comm, mul-le-mul}
 use native.Mathlib.Omega.{arith}
 use borrow.Author.Tests.{le-leb, eq-eqb}
 use lib.Dec.{ltb}
@@ -21,6 +21,8 @@ use Rattle.power.specs.Power.{formula_in, cable_fits}
 use Rattle.power.proofs.Laws.{formula_most, formula_in_lem}
 use Rattle.store.specs.Store.{as_row, read_from, store_fits}
 use Rattle.store.proofs.Laws.{at_row, read_from_lem, row_part_fits}
+use Rattle.rules.specs.declared.Ground.{Ground}
+use Rattle.rules.specs.Grounds.{ground_number}
 use Rattle.grounds.specs.Found.{HoursFound, BuffersFit}
 
 -- the hours of a row, summed
@@ -28,9 +30,9 @@ sum_row : (hs : List ℕ) (t : ℕ) → length hs ≡ t → sum_to (at (as_row h
 sum_row hs t e = sum_same t (at (as_row hs)) (at hs) (λ h l. at_row hs h) ∙ rw (sum_at hs, e)
 
 -- as read
-pub read_found : (g : ℕ) (store : List ℕ) (r t : ℕ) (buffer : List ℕ) {after : List ℕ} {v : ℕ} → BuffersFit store buffer t → r ≤ 13
+pub read_found : (g : Ground) (store : List ℕ) (r t : ℕ) (buffer : List ℕ) {after : List ℕ} {v : ℕ} → BuffersFit store buffer t → r ≤ 13
     → after ≡ read_from store r t buffer → v ≡ sum_to (at after) t
-    → HoursFound g (sum (row_part store r t)) (row_part store r t) (record { ground = g; volume = record { 0 = v } }) after
+    → HoursFound (ground_number g) (sum (row_part store r t)) (row_part store r t) (record { ground = g; volume = record { 0 = v } }) after
 read_found g store r t buffer l row e f =
     let long : length (row_part store r t)
     ≡ t = length-take-le t (drop (744 * r) store) (rw (length-drop (744 * r) store) (omega (arith, l.words, l.few))) in
@@ -38,10 +40,10 @@ read_found g store r t buffer l row e f =
     record { ground = refl; volume = f ∙ rw filled (sum_row (row_part store r t) t long); hours = filled }
 
 -- as the past's
-pub past_found : (g : ℕ) (store : List ℕ) (r past t : ℕ) (buffer : List ℕ) {cleared after : List ℕ} {v : ℕ} → BuffersFit store buffer t
+pub past_found : (g : Ground) (store : List ℕ) (r past t : ℕ) (buffer : List ℕ) {cleared after : List ℕ} {v : ℕ} → BuffersFit store buffer t
     → cleared ≡ zeros (length buffer) → Filled (past_at (take (744 * r + past - 744 * r) (drop (744 * r) store))) cleared after t
     → v ≡ sum_to (at after) t
-    → HoursFound g (sum (stretched (row_part store r past) t)) (stretched (row_part store r past) t) (record { ground = g; volume = record { 0 = v } }) after
+    → HoursFound (ground_number g) (sum (stretched (row_part store r past) t)) (stretched (row_part store r past) t) (record { ground = g; volume = record { 0 = v } }) after
 unfolding stretched
 past_found g store r past t buffer l e filled f =
     let w = past_at (row_part store r past) in
@@ -53,7 +55,7 @@ past_found g store r past t buffer l e filled f =
 filled_by : {fits r : Bool} {hs before after : List ℕ} → Shared fits hs before after r → fits ≡ true → length before ≡ 744 → after ≡ as_row hs
 filled_by s t l = s.left ∙ rw (t, l)
 
-month_there : (v t room : ℕ) → v ≤ greatest_volume_read → 1 ≤ t → t ≤ 744 → room ≡ 744 → month_fits v t room ≡ true
+pub month_there : (v t room : ℕ) → v ≤ greatest_volume_read → 1 ≤ t → t ≤ 744 → room ≡ 744 → month_fits v t room ≡ true
 unfolding month_fits
 month_there v t room small some few e =
     rw (le-leb v greatest_volume_read small, le-leb 1 t some, le-leb t 744 few, le-leb t room (omega arith))
@@ -61,15 +63,15 @@ month_there v t room small some few e =
 -- a sharing over every hour
 -- the flags that the code lends
 abbrev pub every_hour : ℕ → List Bool
-every_hour t = take (t - 0) (replicate 744 true)
+every_hour t = take t (replicate 744 true)
 
 all_chosen : (t h : ℕ) → t ≤ 744 → h < t → chosen_at (every_hour t) h ≡ true
 all_chosen t h few l =
-    get_or-take (t - 0) (replicate 744 true) h false (omega arith) ∙ get_or-replicate 744 h true false (omega arith)
+    get_or-take t (replicate 744 true) h false (omega arith) ∙ get_or-replicate 744 h true false (omega arith)
 
 length_every : (t : ℕ) → t ≤ 744 → length (every_hour t) ≡ t
 length_every t few =
-    length-take-le (t - 0) (replicate 744 true) (rw (length-replicate {A = Bool} 744 true) (omega arith)) ∙ sub-zero t
+    length-take-le t (replicate 744 true) (rw (length-replicate {A = Bool} 744 true) (omega arith))
 
 over_every : (v t : ℕ) (ws : List ℕ) → length ws ≡ t → t ≤ 744 → shares_over v (chosen_at (every_hour t)) ws ≡ shares v ws
 unfolding shares_over
@@ -88,46 +90,54 @@ weights_small store r past t chosen fits few =
     (λ h l. cond_most (chosen h) (cond_most (ltb h (length part)) (each h) (each (h - 168))) (omega arith)) in
     le-leb (sum_to (within chosen (past_at part)) t) greatest_month_volume (omega (arith, most))
 
--- by the past's weights
-pub shares_found : (g v : ℕ) (store : List ℕ) (r past t : ℕ) (buffer : List ℕ) {after : List ℕ} {done : Bool}
-    → BuffersFit store buffer t → r ≤ 13 → past ≤ 744 → store_fits store ≡ true → v ≤ greatest_volume_read
-    → Shared (row_fits (length store) r past
-    && (month_fits v (length (every_hour t)) (length buffer) && weights_fit
-    (sum_to (within (chosen_at (every_hour t)) (past_at (row_part store r past))) (length (every_hour t)))))
-    (shares_over v (chosen_at (every_hour t)) (stretched (row_part store r past) (length (every_hour t)))) buffer after done
-    → HoursFound g v (shares v (stretched (row_part store r past) t)) (record { ground = g; volume = record { 0 = v } }) after
-unfolding row_fits stretched
-shares_found g v store r past t buffer l row short fits small s =
-    let there = rw (length_every t l.few) at s in
-    let w = past_at (row_part store r past) in
-    record {
-      ground = refl;
-      volume = refl;
-      hours =
-          filled_by there
-          (rw (
-            eq-eqb (length store) 10416 l.words,
-            le-leb r 13 row,
-            le-leb past 744 short,
-            month_there v t (length buffer) small l.some l.few l.room,
-          )
-          (weights_small store r past t (chosen_at (every_hour t)) fits l.few))
-          l.room
-          ∙ rw (over_every v t (tab t w) (length_tab t w) l.few);
-    }
+-- by the past's weights, whose numbers fit
+module _ {store : List ℕ} {v r past t : ℕ} {buffer : List ℕ} (l : BuffersFit store buffer t) (row : r ≤ 13) (short : past ≤ 744)
+    (fits : store_fits store ≡ true) (small : v ≤ greatest_volume_read) where
+  abbrev pub every_fit : Bool
+  every_fit =
+      row_fits (length store) r past
+      && (month_fits v (length (every_hour t)) (length buffer)
+      && weights_fit (sum_to (within (chosen_at (every_hour t)) (past_at (row_part store r past))) (length (every_hour t))))
+
+  pub shares_fit : every_fit ≡ true
+  unfolding row_fits
+  shares_fit =
+      rw (
+        length_every t l.few,
+        eq-eqb (length store) 10416 l.words,
+        le-leb r 13 row,
+        le-leb past 744 short,
+        month_there v t (length buffer) small l.some l.few l.room,
+      )
+      (weights_small store r past t (chosen_at (every_hour t)) fits l.few)
+
+  pub shares_found : (g : Ground) {after : List ℕ} {done : Bool}
+      → Shared every_fit (shares_over v (chosen_at (every_hour t)) (stretched (row_part store r past) (length (every_hour t)))) buffer after done
+      → HoursFound (ground_number g) v (shares v (stretched (row_part store r past) t)) (record { ground = g; volume = record { 0 = v } }) after
+  unfolding stretched
+  shares_found g s =
+      let w = past_at (row_part store r past) in
+      record {
+        ground = refl;
+        volume = refl;
+        hours = filled_by s shares_fit l.room ∙ rw (length_every t l.few, over_every v t (tab t w) (length_tab t w) l.few);
+      }
 
 -- by the peak rule, or any sharing of a volume that fits a month
-pub month_found : (g v t : ℕ) (buffer hs : List ℕ) {after : List ℕ} {done : Bool} → v ≤ greatest_volume_read → 1 ≤ t → t ≤ 744
+pub month_found : (g : Ground) (v t : ℕ) (buffer hs : List ℕ) {after : List ℕ} {done : Bool} → v ≤ greatest_volume_read → 1 ≤ t → t ≤ 744
     → length buffer ≡ 744
-    → Shared (month_fits v t (length buffer)) hs buffer after done → HoursFound g v hs (record { ground = g; volume = record { 0 = v } }) after
+    → Shared (month_fits v t (length buffer)) hs buffer after done → HoursFound (ground_number g) v hs (record { ground = g; volume = record { 0 = v } }) after
 month_found g v t buffer hs small some few room s =
     record { ground = refl; volume = refl; hours = filled_by s (month_there v t (length buffer) small some few room) room }
 
 -- evenly
-pub even_found : (g v t : ℕ) (buffer : List ℕ) {after : List ℕ} {done : Bool}
+pub even_there : (v t room : ℕ) → v ≤ greatest_volume_read → 1 ≤ t → t ≤ 744 → room ≡ 744 → month_fits v (length (every_hour t)) room ≡ true
+even_there v t room small some few e = rw (length_every t few) (month_there v t room small some few e)
+
+pub even_found : (g : Ground) (v t : ℕ) (buffer : List ℕ) {after : List ℕ} {done : Bool}
     → v ≤ greatest_volume_read → 1 ≤ t → t ≤ 744 → length buffer ≡ 744
     → Shared (month_fits v (length (every_hour t)) (length buffer)) (shares_over v (chosen_at (every_hour t)) (ones (length (every_hour t)))) buffer after done
-    → HoursFound g v (shares v (ones t)) (record { ground = g; volume = record { 0 = v } }) after
+    → HoursFound (ground_number g) v (shares v (ones t)) (record { ground = g; volume = record { 0 = v } }) after
 even_found g v t buffer small some few room s =
     let there = rw (length_every t few) at s in
     month_found g v t buffer (shares v (ones t)) small some few room (rw (over_every v t (ones t) (length_tab t one) few) at there)

@@ -1,20 +1,26 @@
 -- Where the past of a record stands. Assumes nothing.
 use Prim.Native.Nat.{ℕ, ◌-◌, ◌≤◌, ◌<◌}
-use mathlib.Core.Path.{◌≡◌}
+use mathlib.Core.Path.{◌≡◌, refl, ◌∙◌}
 use mathlib.Core.Logic.{◌≢◌}
-use mathlib.Core.Bool.{true, false}
+use mathlib.Core.Bool.{true}
 use native.Mathlib.Omega.{arith}
-use borrow.Author.Tests.{eq-eqb, ne_eqb, leb-true, le-leb}
-use lib.Dec.{leb, ltb, lit≤}
+use borrow.Author.Tests.{eq-eqb, ne_eqb, eqb-true, eqb-false, leb-true, le-leb}
+use lib.Dec.{leb, ltb, eqb}
+use Rattle.std.specs.Prelude.{List, Option, None, Some}
+use Rattle.std.proofs.lemmas.Option.{none-some}
 use Rattle.numbers.specs.Lists.{at}
-use Rattle.numbers.proofs.Laws.{both}
-use Rattle.calendar.specs.Calendar.{is_month_number, month_number, date_of, date_in}
-use Rattle.calendar.proofs.Laws.{open_high, OpenLimits, open_limits}
+use Rattle.numbers.proofs.Laws.{by_cases, both}
+use Rattle.calendar.specs.declared.Date.{Date}
+use Rattle.calendar.specs.Calendar.{is_month_number, is_open_number, month_number, open_hours, date_of, month_in}
+use Rattle.calendar.proofs.Laws.{OpenLimits, open_limits}
 use Rattle.record.specs.declared.Record.{Record}
 use Rattle.validity.specs.Valid.{valid}
 use Rattle.validity.proofs.Laws.{valid_parts, past_parts}
-use Rattle.model.specs.Model.{past_in, last_year}
-use Rattle.grounds.specs.Found.{in_row, hours_from, PastFound}
+use Rattle.rules.specs.Rules.{PastHours}
+use Rattle.store.specs.Store.{row_part}
+use Rattle.model.specs.Model.{state, past_in, last_year, row_of}
+use Rattle.grounds.specs.declared.past_month.PastMonth.{PastMonth}
+use Rattle.grounds.specs.Found.{past_month, hours_from, PastFound}
 
 -- the open month's limits
 pub month_limits : (r : Record) → valid r ≡ true → OpenLimits r.date
@@ -30,10 +36,9 @@ month_some r v = omega (arith, month_limits r v)
 pub row_some : (r : Record) → valid r ≡ true → r.date.month - 1 < 12
 row_some r v = omega (arith, month_limits r v)
 
--- the month of the latest past
-pub latest_date : (r : Record) → valid r ≡ true → r.past.latest ≢ 0 → date_in r.past.latest ≡ date_of r.past.latest
-unfolding date_in
-latest_date r v n =
+-- where there is a latest past month, its number is that of a month
+pub latest_some : (r : Record) → valid r ≡ true → r.past.latest ≢ 0 → is_open_number r.past.latest ≡ true
+latest_some r v n =
     let l = r.past.latest in
     let p = (past_parts r.past r.date (valid_parts r v).past).latest in
     let q = both (is_month_number l) (ltb l (month_number r.date)) (rw (ne_eqb l 0 n) at p) in
@@ -41,33 +46,49 @@ latest_date r v n =
     rw (m.0, le-leb l 36001 (omega (arith, leb-true l 36000 m.1)))
 
 -- the same month last year
-pub found_year : (r : Record) → valid r ≡ true → at r.past.years (r.date.month - 1) ≡ r.date.year - 1
-    → PastFound r (in_row (last_year r.date))
-unfolding past_in hours_from
-found_year r v e = record {
-  same = λ store. rw (eq-eqb _ _ e);
-  fits = record { row = omega (arith, month_limits r v); short = open_high (last_year r.date) };
-}
+pub same_month : (r : Record) → at r.past.years (r.date.month - 1) ≡ r.date.year - 1 → Some (last_year r.date) ≡ past_month r
+unfolding past_month
+same_month r e = rw (eq-eqb _ _ e) refl
 
--- no past
-pub found_none : (r : Record) → at r.past.years (r.date.month - 1) ≢ r.date.year - 1 → r.past.latest ≡ 0
-    → PastFound r (record { found = false; row = 0; hours = 0 })
-unfolding past_in hours_from
-found_none r n z = record {
-  same = λ store. rw (ne_eqb (at r.past.years (r.date.month - 1)) (r.date.year - 1) n, z);
-  fits = record { row = lit≤ tt; short = lit≤ tt };
-}
-
--- the latest past month
-pub found_latest : (r : Record) → at r.past.years (r.date.month - 1) ≢ r.date.year - 1 → r.past.latest ≢ 0
-    → PastFound r (in_row (date_of r.past.latest))
-unfolding past_in hours_from date_of
-found_latest r n z = record {
-  same = λ store. rw (ne_eqb (at r.past.years (r.date.month - 1)) (r.date.year - 1) n, ne_eqb r.past.latest 0 z);
-  fits = record { row = omega arith; short = open_high (date_of r.past.latest) };
-}
+-- the latest past month, or none: there is no month of the number 0
+pub latest_month : (r : Record) → valid r ≡ true → at r.past.years (r.date.month - 1) ≢ r.date.year - 1 → month_in r.past.latest ≡ past_month r
+unfolding past_month month_in
+latest_month r v n =
+    rw (ne_eqb (at r.past.years (r.date.month - 1)) (r.date.year - 1) n)
+    (by_cases (eqb r.past.latest 0) (λ t. rw (eqb-true r.past.latest 0 t) refl) (λ f. rw (f, latest_some r v (eqb-false _ _ f)) refl))
 
 -- its month is one of the twelve
-pub latest_month : (n : ℕ) → (1 ≤ (date_of n).month) × ((date_of n).month ≤ 12)
-unfolding date_of
-latest_month n = (omega arith, omega arith)
+pub past_limits : (r : Record) {d : Date} → valid r ≡ true → past_month r ≡ Some d → (1 ≤ d.month) × (d.month ≤ 12)
+unfolding past_month date_of
+past_limits r {d} v e =
+    by_cases (eqb (at r.past.years (r.date.month - 1)) (r.date.year - 1))
+    (λ t.
+    let same : last_year r.date ≡ d = let q : Some (last_year r.date) ≡ Some d = rw t at e in cc in
+    let h = month_limits r v in
+    rw (← same) (omega arith, omega arith))
+    (λ f.
+    by_cases (eqb r.past.latest 0) (λ t. absurd (none-some _ (rw (f, t) at e)))
+    (λ n.
+    let latest : date_of r.past.latest ≡ d = let q : Some (date_of r.past.latest) ≡ Some d = rw (f, n) at e in cc in
+    rw (← latest) (omega arith, omega arith)))
+
+-- THE PAST IS THE PAST MONTH'S, in any store
+abbrev pub past_of_month : List ℕ → Option Date → PastHours
+past_of_month store None = None
+past_of_month store (Some d) = Some (row_part store (row_of d) (open_hours d))
+
+pub past_is : (r : Record) (store : List ℕ) → past_in (state r store) ≡ past_of_month store (past_month r)
+unfolding past_in past_month
+past_is r store =
+    by_cases (eqb (at r.past.years (r.date.month - 1)) (r.date.year - 1)) (λ t. rw t)
+    (λ f. rw f (by_cases (eqb r.past.latest 0) (λ t. rw t) (λ n. rw n)))
+
+-- where its row and hours are found
+pub found_none : (r : Record) → past_month r ≡ None → PastFound r None
+unfolding hours_from
+found_none r e store = past_is r store ∙ rw e
+
+pub found_some : (r : Record) {d : Date} (p : PastMonth) → past_month r ≡ Some d → p.row ≡ d.month - 1 → p.hours ≡ open_hours d
+    → PastFound r (Some p)
+unfolding hours_from
+found_some r p e row hours store = past_is r store ∙ rw (e, row, hours)

@@ -7,28 +7,27 @@ ghost use Rattle.sharing.specs.Shares.{ones, shares, past_at, stretched};
 ghost use Rattle.store.specs.Store.{row_part};
 ghost use Rattle.marks.specs.Peak.{peak_rule};
 ghost use Rattle.store.specs.Store.{store_fits};
+ghost use Rattle.rules.specs.Grounds.{ground_number};
 ghost use Rattle.grounds.specs.Found.{HoursFound, BuffersFit};
 
-use super::Found;
 use super::past::share_by_row;
+use super::{Found, PastMonth};
 use marks::peak::peak_rule;
 use numbers::{clear, sum_first};
+use rules::Ground;
 use sharing::share_evenly;
 use sharing::weights::past_at;
 use store::read_row;
 use units::{Kw, Kwh};
 
-// The hours of a row as read; the volume is their sum.
-pub(crate) fn as_read(ground: u32, store: &[u32], row: usize, t: usize, hours: &mut [u32]) -> Found
+// The hours of a row as read; the volume is their sum. Grounds 1 and 3.
+pub fn as_read(ground: Ground, store: &[u32], row: usize, t: usize, hours: &mut [u32]) -> Found
     requires { BuffersFit store.now hours.old t × (row ≤ 13) }
-    ensures { HoursFound ground (sum (row_part store.now row t)) (row_part store.now row t) result hours.new }
+    ensures { HoursFound (ground_number ground) (sum (row_part store.now row t)) (row_part store.now row t) result hours.new }
 {
     read_row(store, row, t, hours);
-    let volume = sum_first(hours, t);
-    Found {
-        ground: ground,
-        volume: Kwh(volume),
-    }
+    let volume = Kwh(sum_first(hours, t));
+    Found { ground, volume }
 }
 
 // Hours 0 to t - 1 of the past, its hour h - 168 where it lacks hour h, into the front of a buffer.
@@ -37,87 +36,60 @@ fn copy_past(past: &[u32], t: usize, hours: &mut [u32])
     requires { t ≤ length hours.old }
     ensures { Filled (past_at past.now) hours.old hours.new t }
 {
-    let mut h = 0;
-    while h < t {
+    for h in 0..t {
         hours[h] = past_at(past, h) as u32;
-        h += 1;
     }
 }
 
-// The hours of the past, whose T' hours (`past`) stand at the front of a row, for a month of t hours; the volume is their
-// sum.
-pub(crate) fn as_past(
-    ground: u32,
+// The hours of the past for a month of t hours; the volume is their sum. Ground 7.
+pub fn as_past(ground: Ground, store: &[u32], past: PastMonth, t: usize, hours: &mut [u32]) -> Found
+    requires { BuffersFit store.now hours.old t }
+    ensures { HoursFound (ground_number ground) (sum (stretched (row_part store.now past.row past.hours) t))
+        (stretched (row_part store.now past.row past.hours) t)
+        result hours.new }
+{
+    let start = 744 * past.row;
+    let end = start + past.hours;
+    clear(hours);
+    copy_past(&store[start..end], t, hours);
+    let volume = Kwh(sum_first(hours, t));
+    Found { ground, volume }
+}
+
+// A volume shared by the past over a month of t hours. Grounds 4 and 6.
+pub fn by_past(
+    ground: Ground,
+    volume: Kwh,
     store: &[u32],
-    row: usize,
-    past: usize,
+    past: PastMonth,
     t: usize,
     hours: &mut [u32],
 ) -> Found
-    requires { BuffersFit store.now hours.old t × (row ≤ 13) × (past ≤ 744) }
-    ensures { HoursFound ground (sum (stretched (row_part store.now row past) t)) (stretched (row_part store.now row past) t) result
+    requires buffers_fit { BuffersFit store.now hours.old t }
+    requires store_value { (store_fits store.now ≡ true) × (volume.0 ≤ greatest_volume_read) }
+    ensures { HoursFound (ground_number ground) volume.0 (shares volume.0 (stretched (row_part store.now past.row past.hours) t)) result
         hours.new }
 {
-    let from = 744 * row;
-    let to = from + past;
-    clear(hours);
-    copy_past(&store[from..to], t, hours);
-    let volume = sum_first(hours, t);
-    Found {
-        ground: ground,
-        volume: Kwh(volume),
-    }
-}
-
-// A volume shared by the past, whose T' hours (`past`) stand at the front of a row, over a month of t hours.
-pub(crate) fn by_past(
-    ground: u32,
-    volume: Kwh,
-    store: &[u32],
-    row: usize,
-    past: usize,
-    t: usize,
-    hours: &mut [u32],
-) -> Found
-    requires buffers_fit { BuffersFit store.now hours.old t × (row ≤ 13) × (past ≤ 744) }
-    requires store_value { (store_fits store.now ≡ true) × (volume.0 ≤ greatest_volume_read) }
-    ensures { HoursFound ground volume.0 (shares volume.0 (stretched (row_part store.now row past) t)) result hours.new }
-{
     let every = [true; 744];
-    share_by_row(volume, store, row, past, &every[0..t], hours);
-    Found {
-        ground: ground,
-        volume: volume,
-    }
+    share_by_row(volume, store, past.row, past.hours, &every[..t], hours).unwrap();
+    Found { ground, volume }
 }
 
-// A volume by the peak rule.
-pub(crate) fn by_peaks(
-    ground: u32,
-    volume: Kwh,
-    power: Kw,
-    marks: &[u8],
-    hours: &mut [u32],
-) -> Found
+// A volume by the peak rule. Grounds 2 and 5.
+pub fn by_peaks(ground: Ground, volume: Kwh, power: Kw, marks: &[u8], hours: &mut [u32]) -> Found
     requires { (volume.0 ≤ greatest_volume_read) × (1 ≤ length marks.now) × (length marks.now ≤ 744) × (length hours.old ≡ 744) }
-    ensures { HoursFound ground volume.0 (peak_rule volume.0 power.0 marks.now) result hours.new }
+    ensures { HoursFound (ground_number ground) volume.0 (peak_rule volume.0 power.0 marks.now) result hours.new }
 {
-    peak_rule(volume, power, marks, hours);
-    Found {
-        ground: ground,
-        volume: volume,
-    }
+    peak_rule(volume, power, marks, hours).unwrap();
+    Found { ground, volume }
 }
 
-// A volume evenly over a month of t hours.
-pub(crate) fn evenly(ground: u32, volume: Kwh, t: usize, hours: &mut [u32]) -> Found
+// A volume evenly over a month of t hours. Grounds 8 and 9.
+pub(crate) fn evenly(ground: Ground, volume: Kwh, t: usize, hours: &mut [u32]) -> Found
     requires { (volume.0 ≤ greatest_volume_read) × (1 ≤ t) × (t ≤ 744) × (length hours.old ≡ 744) }
-    ensures { HoursFound ground volume.0 (shares volume.0 (ones t)) result hours.new }
+    ensures { HoursFound (ground_number ground) volume.0 (shares volume.0 (ones t)) result hours.new }
 {
     let every = [true; 744];
-    share_evenly(volume, &every[0..t], hours);
-    Found {
-        ground: ground,
-        volume: volume,
-    }
+    share_evenly(volume, &every[..t], hours).unwrap();
+    Found { ground, volume }
 }

@@ -11,12 +11,13 @@ use Rattle.power.specs.Power.{shared_power, power_on}
 use Rattle.contract.specs.Contract.{no_cable, kept, power_of}
 use Rattle.rules.specs.Calls.{Opening, Call, billing_hours, control_hours, billing_volume, control_volume, neighbour, failure, admission, denial}
 use Rattle.rules.specs.Calls.{permission, closing}
-use Rattle.rules.specs.Rules.{missing, hourly, whole, unstated, stated, no_past_hours, past_hours, counted_of, neighbour_of, as_read, by_weights, by_peaks}
+use Rattle.rules.specs.Rules.{missing, hourly, whole, counted_of, neighbour_of, as_read, by_weights, by_peaks}
 use Rattle.rules.specs.Rules.{evenly, by_contract, on_past, on_control, on_billing, rules, becomes_past}
 use Rattle.history.specs.Book.{Entry, Book, billing, control, neighbouring, failed, admitted, denied, permitted, closed, of_kind, is_from}
 use Rattle.history.specs.Book.{is_faulty, month_of, denials_of, discards, billing_of, this_months, source_of, fault_since, is_repeat, became_past}
 use Rattle.history.specs.Book.{run_of, hours_at, latest_hours, or_else_past, past_of, volumes, inputs_of, nothing, work_out, feed}
 use Rattle.history.proofs.View.{look_backs}
+use Rattle.std.specs.Prelude.{None, Some}
 
 unfoldable pub book_definitions : Unit {0}
 unfolding look_backs fault_since hours_at latest_hours or_else_past past_of inputs_of feed counted_of neighbour_of becomes_past month_number next_month
@@ -117,8 +118,8 @@ others :
     × (this_months (of_kind control) (called (control_hours (2 ∷ [])) ∷ []) ≡ hourly (2 ∷ []))
     × (this_months (of_kind control) (called (billing_volume 5) ∷ []) ≡ missing)
     × (this_months (of_kind control) (shut 4 [] ∷ called (control_volume 6) ∷ []) ≡ missing)
-    × (source_of 1 (called (failure 1) ∷ called (neighbour 1 7) ∷ []) ≡ stated 7) × (source_of 2 (called (neighbour 1 7) ∷ []) ≡ unstated)
-    × (source_of 1 (shut 8 [] ∷ called (neighbour 1 7) ∷ []) ≡ unstated)
+    × (source_of 1 (called (failure 1) ∷ called (neighbour 1 7) ∷ []) ≡ Some 7) × (source_of 2 (called (neighbour 1 7) ∷ []) ≡ None)
+    × (source_of 1 (shut 8 [] ∷ called (neighbour 1 7) ∷ []) ≡ None)
 unfolding book_definitions
 others = (refl, refl, refl, refl, refl, refl, refl)
 
@@ -176,20 +177,20 @@ counts = (refl, refl, refl)
 
 -- THE PAST: the same month last year goes before the latest, and an estimated month is neither
 pasts :
-    (past_of o [] ≡ no_past_hours) × (past_of o (estimated 12 []) ≡ no_past_hours)
-    × (past_of o (estimated 3 (shut 1 (5 ∷ []) ∷ [])) ≡ past_hours (5 ∷ []))
-    × (past_of o (shut 2 (6 ∷ []) ∷ estimated 10 (shut 1 (5 ∷ []) ∷ [])) ≡ past_hours (5 ∷ []))
-    × (past_of o (shut 2 (6 ∷ []) ∷ estimated 9 (shut 1 (5 ∷ []) ∷ [])) ≡ past_hours (6 ∷ []))
-    × (past_of o (shut 2 (6 ∷ []) ∷ estimated 11 (shut 1 (5 ∷ []) ∷ [])) ≡ past_hours (6 ∷ []))
-    × (past_of o (estimated 11 (shut 1 (5 ∷ []) ∷ estimated 11 (shut 2 (6 ∷ []) ∷ []))) ≡ past_hours (5 ∷ []))
-    × (past_of o (estimated 23 (shut 1 (5 ∷ []) ∷ [])) ≡ past_hours (5 ∷ []))
+    (past_of o [] ≡ None) × (past_of o (estimated 12 []) ≡ None)
+    × (past_of o (estimated 3 (shut 1 (5 ∷ []) ∷ [])) ≡ Some (5 ∷ []))
+    × (past_of o (shut 2 (6 ∷ []) ∷ estimated 10 (shut 1 (5 ∷ []) ∷ [])) ≡ Some (5 ∷ []))
+    × (past_of o (shut 2 (6 ∷ []) ∷ estimated 9 (shut 1 (5 ∷ []) ∷ [])) ≡ Some (6 ∷ []))
+    × (past_of o (shut 2 (6 ∷ []) ∷ estimated 11 (shut 1 (5 ∷ []) ∷ [])) ≡ Some (6 ∷ []))
+    × (past_of o (estimated 11 (shut 1 (5 ∷ []) ∷ estimated 11 (shut 2 (6 ∷ []) ∷ []))) ≡ Some (5 ∷ []))
+    × (past_of o (estimated 23 (shut 1 (5 ∷ []) ∷ [])) ≡ Some (5 ∷ []))
 unfolding book_definitions
 pasts = (refl, refl, refl, refl, refl, refl, refl, refl)
 
 same_month :
-    (hours_at o 24277 (estimated 3 (shut 1 (5 ∷ []) ∷ [])) ≡ past_hours (5 ∷ []))
-    × (hours_at o 24278 (estimated 3 (shut 1 (5 ∷ []) ∷ [])) ≡ no_past_hours)
-    × (latest_hours (estimated 3 (shut 2 (6 ∷ []) ∷ shut 1 (5 ∷ []) ∷ [])) ≡ past_hours (6 ∷ [])) × (latest_hours (estimated 3 []) ≡ no_past_hours)
+    (hours_at o 24277 (estimated 3 (shut 1 (5 ∷ []) ∷ [])) ≡ Some (5 ∷ []))
+    × (hours_at o 24278 (estimated 3 (shut 1 (5 ∷ []) ∷ [])) ≡ None)
+    × (latest_hours (estimated 3 (shut 2 (6 ∷ []) ∷ shut 1 (5 ∷ []) ∷ [])) ≡ Some (6 ∷ [])) × (latest_hours (estimated 3 []) ≡ None)
 unfolding book_definitions
 same_month = (refl, refl, refl, refl)
 

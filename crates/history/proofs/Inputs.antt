@@ -16,7 +16,7 @@ use Rattle.store.specs.Store.{row_part}
 use Rattle.contract.specs.Contract.{kept}
 use Rattle.store.specs.Store.{as_row}
 use Rattle.rules.specs.Calls.{Opening}
-use Rattle.rules.specs.Rules.{Measured, missing, hourly, whole, Stated, unstated, stated, PastHours, no_past_hours, past_hours, becomes_past}
+use Rattle.rules.specs.Rules.{Measured, missing, hourly, whole, Stated, PastHours, becomes_past}
 use Rattle.model.specs.Model.{measured_in, stated_in, row_of, last_year, past_in, inputs}
 use Rattle.history.specs.Book.{Entry, Book, control, closed, of_kind, month_of, billing_of, this_months, source_of, became_past, hours_at}
 use Rattle.history.specs.Book.{latest_hours, or_else_past, past_of, inputs_of}
@@ -24,6 +24,7 @@ use Rattle.history.proofs.Rows.{take_row, row_hours_lem}
 use Rattle.history.proofs.View.{given_by, stated_by, hours_read, latest_of, year_in, last_in, contents, point_of, seen, OfItsMeter, Entered}
 use Rattle.history.proofs.View.{MonthsClosed, Shows}
 use Rattle.history.proofs.Months.{month_open, grows}
+use Rattle.std.specs.Prelude.{None, Some}
 
 -- THIS MONTH'S READINGS
 reading_same : (kind t : ℕ) (m : Measured) → OfItsMeter kind t m → (hs : List ℕ) → (length (hours_read m) ≡ t → hs ≡ hours_read m)
@@ -35,8 +36,8 @@ reading_same kind t (whole v) f hs e = rw f
 
 stated_same : (q : Stated) → stated_in (stated_by q) ≡ q
 unfolding stated_in stated_by
-stated_same unstated = refl
-stated_same (stated v) = refl
+stated_same None = refl
+stated_same (Some v) = refl
 
 -- THE PAST
 -- a closing on ground 1 or 2 opens the next month
@@ -52,7 +53,7 @@ after_metered o e es f m =
     rw t (number_next (month_of o es) (f.month t))
 
 -- no month from the one that is open on was closed
-not_yet_closed : (o : Opening) (n : ℕ) (es : Book) → MonthsClosed o es → month_number (month_of o es) ≤ n → hours_at o n es ≡ no_past_hours
+not_yet_closed : (o : Opening) (n : ℕ) (es : Book) → MonthsClosed o es → month_number (month_of o es) ≤ n → hours_at o n es ≡ None
 unfolding hours_at MonthsClosed
 not_yet_closed o n [] f l = refl
 not_yet_closed o n (e ∷ es) f l =
@@ -76,7 +77,7 @@ pub record DateFits (d : Date) : Type 0 where
 -- the row of a month, if it holds the year of the date d, is the book's of that date; it is asked for at most 12 months later
 year_same : (o : Opening) (es : Book) → MonthsClosed o es → (d : Date) → DateFits d → month_number (month_of o es) ≤ month_number d + 12
     → (q : PastHours)
-    → cond (eqb (year_in o es (row_of d)) d.year) (past_hours (take (open_hours d) (as_row (last_in o es (row_of d))))) q
+    → cond (eqb (year_in o es (row_of d)) d.year) (Some (take (open_hours d) (as_row (last_in o es (row_of d))))) q
     ≡ or_else_past (hours_at o (month_number d) es) q
 unfolding MonthsClosed year_in last_in hours_at or_else_past
 year_same o [] f d h l q = rw (ne_eqb 0 d.year (omega (arith, h.year)))
@@ -107,8 +108,8 @@ year_same o (e ∷ es) f d h l q =
     (λ m. rw m (year_same o es f.1 d h (omega arith) q))
 
 latest_same : (o : Opening) (es : Book) → MonthsClosed o es
-    → cond (eqb (latest_of o es) 0) no_past_hours
-    (past_hours (take (open_hours (date_of (latest_of o es))) (as_row (last_in o es (row_of (date_of (latest_of o es))))))) ≡ latest_hours es
+    → cond (eqb (latest_of o es) 0) None
+    (Some (take (open_hours (date_of (latest_of o es))) (as_row (last_in o es (row_of (date_of (latest_of o es))))))) ≡ latest_hours es
 unfolding MonthsClosed latest_of last_in latest_hours
 latest_same o [] f = refl
 latest_same o (e ∷ es) f =

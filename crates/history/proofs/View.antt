@@ -12,13 +12,14 @@ use Rattle.record.specs.declared.Reading.{Reading}
 use Rattle.record.specs.declared.Record.{Record}
 use Rattle.record.specs.Record.{kwh, not_given, given_as}
 use Rattle.rules.specs.Calls.{Opening, is_closing}
-use Rattle.rules.specs.Rules.{Measured, missing, hourly, whole, Stated, unstated, stated}
+use Rattle.rules.specs.Rules.{Measured, missing, hourly, whole, Stated}
 use Rattle.model.specs.Model.{State, state, row_of}
 use Rattle.model.specs.Sound.{Sound}
 use Rattle.history.specs.Book.{Entry, Book, control, failed, admitted, closed, kind_of, kind_number, of_kind, source_or_reason, reading_of, marks_of}
 use Rattle.history.specs.Book.{is_from, is_faulty, month_of, denials_of, discards, billing_of, this_months, as_stated, source_of, is_repeat}
 use Rattle.history.specs.Book.{became_past, run_of, volumes, work_out}
 use Rattle.history.proofs.Rows.{Holds}
+use Rattle.std.specs.Prelude.{None, Some}
 
 -- WHAT A BOOK DESCRIBES
 -- a reading as the record has it, and the hours of it that the store has
@@ -28,8 +29,8 @@ given_by (hourly hs) = given_as 0
 given_by (whole v) = given_as v
 
 unfoldable pub stated_by : Stated → Reading
-stated_by unstated = not_given
-stated_by (stated v) = given_as v
+stated_by None = not_given
+stated_by (Some v) = given_as v
 
 unfoldable pub hours_read : Measured → List ℕ
 hours_read missing = []

@@ -7,8 +7,9 @@ use Rattle.calendar.specs.Calendar.{month_number, next_month}
 use Rattle.contract.specs.Contract.{kept}
 use Rattle.rules.specs.Calls.{Opening, Call, billing_hours, control_hours, billing_volume, control_volume, neighbour, failure, admission, denial}
 use Rattle.rules.specs.Calls.{permission, closing, is_closing, is_fault}
-use Rattle.rules.specs.Rules.{Measured, missing, hourly, whole, Stated, unstated, stated, PastHours, no_past_hours, past_hours, Inputs, Outcome}
+use Rattle.rules.specs.Rules.{Measured, missing, hourly, whole, Stated, PastHours, Inputs, Outcome}
 use Rattle.rules.specs.Rules.{counted_of, neighbour_of, rules, becomes_past}
+use Rattle.std.specs.Prelude.{None, Some}
 
 -- an accepted call, and what the book worked out if it is a closing
 pub record Entry : Type 0 where
@@ -127,9 +128,9 @@ this_months test (e ∷ es) = cond (of_kind closed e) missing (cond (test e) (re
 
 -- a neighbour reading is a volume
 unfoldable pub as_stated : Measured → Stated
-as_stated missing = unstated
-as_stated (hourly hs) = unstated
-as_stated (whole v) = stated v
+as_stated missing = None
+as_stated (hourly hs) = None
+as_stated (whole v) = Some v
 
 unfoldable pub source_of : ℕ → Book → Stated
 source_of n es = as_stated (this_months (is_from n) es)
@@ -155,18 +156,18 @@ run_of o (e ∷ es) =
 
 -- the book's hours of the month n, if closed on ground 1 or 2
 unfoldable pub hours_at : Opening → ℕ → Book → PastHours
-hours_at o n [] = no_past_hours
-hours_at o n (e ∷ es) = cond (became_past e && eqb (month_number (month_of o es)) n) (past_hours e.out.hours) (hours_at o n es)
+hours_at o n [] = None
+hours_at o n (e ∷ es) = cond (became_past e && eqb (month_number (month_of o es)) n) (Some e.out.hours) (hours_at o n es)
 
 -- the first, or else the second
 unfoldable pub or_else_past : PastHours → PastHours → PastHours
-or_else_past no_past_hours q = q
-or_else_past (past_hours hs) q = past_hours hs
+or_else_past None q = q
+or_else_past (Some hs) q = Some hs
 
 -- of the latest closing on 1 or 2
 unfoldable pub latest_hours : Book → PastHours
-latest_hours [] = no_past_hours
-latest_hours (e ∷ es) = cond (became_past e) (past_hours e.out.hours) (latest_hours es)
+latest_hours [] = None
+latest_hours (e ∷ es) = cond (became_past e) (Some e.out.hours) (latest_hours es)
 
 -- past: the book's hours of the same month last year, if closed on ground 1 or 2; else of the latest closing on 1 or 2; else none
 unfoldable pub past_of : Opening → Book → PastHours

@@ -8,17 +8,18 @@ use Rattle.calendar.specs.Calendar.{is_month}
 use Rattle.contract.specs.Contract.{no_cable}
 use Rattle.rules.specs.Calls.{billing_hours, control_hours, billing_volume, control_volume, neighbour, failure, admission, denial, permission, closing}
 use Rattle.line_reader.specs.declared.Line.{Line}
-use Rattle.line_reader.specs.Codes.{open_call, billing_hours_call, billing_volume_call, control_hours_call, control_volume_call, neighbour_call, failure_call}
-use Rattle.line_reader.specs.Codes.{admission_call, denial_call, permission_call, close_call, year_key, month_key, billing_key, control_key, basis_key}
-use Rattle.line_reader.specs.Codes.{power_key, place_key, amperes_key, volts_key, cosine_key, phases_key, currents_key, source_key, reason_key, volume_key}
+use Rattle.line_reader.specs.declared.calls.Call.{Call}
+use Rattle.line_reader.specs.declared.calls.Call.TheVariants as call
+use Rattle.line_reader.specs.declared.names.Argument.TheVariants as key
+use Rattle.line_reader.specs.Codes.{index_of}
 use Rattle.line_reader.specs.Changes.{with_call, with_value}
 use Rattle.line_reader.specs.Modes.{value_in}
 use Rattle.line_reader.specs.Lines.{fresh_line}
-use Rattle.line_calls.specs.Calls.{argument_of, field_of, cable_by, asked_by, date_by, opening_by, marks_from, call_by}
+use Rattle.line_calls.specs.Calls.{argument_of, field_of, cable_by, asked_by, date_by, opening_by, marks_from, call_as, call_by}
 use Rattle.line_calls.specs.Week.{first_weekday}
 
 unfoldable call_definitions : Unit {0}
-unfolding call_by opening_by date_by asked_by cable_by field_of argument_of value_in marks_from
+unfolding call_by call_as opening_by date_by asked_by cable_by field_of argument_of value_in index_of marks_from
 call_definitions = tt
 
 abbrev on : ℕ → ℕ → Date
@@ -27,10 +28,10 @@ on y m = record { year = y; month = m }
 -- an opening with every argument its own value
 abbrev full : Line
 full =
-    with_value year_key 2023 (with_value month_key 2
-    (with_value billing_key 11 (with_value control_key 12 (with_value basis_key 13 (with_value power_key 14 (with_value place_key 15
-    (with_value amperes_key 16 (with_value volts_key 17 (with_value cosine_key 18 (with_value phases_key 19
-    (with_value currents_key 0 (with_call open_call fresh_line))))))))))))
+    with_value key.Year 2023 (with_value key.Month 2
+    (with_value key.Billing 11 (with_value key.Control 12 (with_value key.Basis 13 (with_value key.Power 14 (with_value key.Place 15
+    (with_value key.Amperes 16 (with_value key.Volts 17 (with_value key.Cosine 18 (with_value key.Phases 19
+    (with_value key.Currents 0 (with_call call.Open fresh_line))))))))))))
 
 -- each argument in its place, the list as the currents, and 0 for what is not given
 openings :
@@ -42,14 +43,14 @@ openings :
       currents = 5 ∷ 6 ∷ [];
       place = 15;
     })
-    × (opening_by (with_value year_key 2023 (with_value month_key 13 (with_call open_call fresh_line))) []
+    × (opening_by (with_value key.Year 2023 (with_value key.Month 13 (with_call call.Open fresh_line))) []
     ≡ record {
       asked = record { billing = 0; control = 0; basis = 0; power = record { 0 = 0 }; cable = no_cable };
       date = on 2023 13;
       currents = [];
       place = 0;
     })
-    × (opening_by (with_value power_key 4294967295 (with_value place_key 4294967295 fresh_line)) (7 ∷ [])
+    × (opening_by (with_value key.Power 4294967295 (with_value key.Place 4294967295 fresh_line)) (7 ∷ [])
     ≡ record {
       asked = record { billing = 0; control = 0; basis = 0; power = record { 0 = 4294967295 }; cable = no_cable };
       date = on 0 0;
@@ -59,9 +60,9 @@ openings :
 unfolding call_definitions
 openings = (refl, refl, refl)
 
-abbrev line : ℕ → Line
-line call =
-    with_call call (with_value source_key 2 (with_value reason_key 3 (with_value volume_key 999999999999999999 fresh_line)))
+abbrev line : Call → Line
+line c =
+    with_call c (with_value key.Source 2 (with_value key.Reason 3 (with_value key.Volume 999999999999999999 fresh_line)))
 
 abbrev list : List ℕ
 list = 5 ∷ 300 ∷ []
@@ -70,20 +71,20 @@ abbrev buffer : List ℕ
 buffer = 8 ∷ 9 ∷ []
 
 calls :
-    (call_by (line billing_hours_call) list buffer ≡ billing_hours list)
-    × (call_by (line billing_volume_call) list buffer ≡ billing_volume 999999999999999999)
-    × (call_by (line control_hours_call) list buffer ≡ control_hours list)
-    × (call_by (line control_volume_call) list buffer ≡ control_volume 999999999999999999)
-    × (call_by (line neighbour_call) list buffer ≡ neighbour 2 999999999999999999)
-    × (call_by (line failure_call) list buffer ≡ failure 3)
-    × (call_by (line admission_call) list buffer ≡ admission)
-    × (call_by (line denial_call) list buffer ≡ denial)
-    × (call_by (line permission_call) list buffer ≡ permission)
-    × (call_by (line close_call) (0 ∷ 1 ∷ 2 ∷ 3 ∷ 255 ∷ []) buffer ≡ closing (0 ∷ 1 ∷ 2 ∷ 3 ∷ 255 ∷ []) buffer)
-    × (call_by (line close_call) [] buffer ≡ closing [] buffer)
-    × (call_by (with_call billing_volume_call fresh_line) list buffer ≡ billing_volume 0)
-    × (call_by (with_call neighbour_call fresh_line) list buffer ≡ neighbour 0 0)
-    × (call_by (with_call failure_call fresh_line) list buffer ≡ failure 0)
+    (call_by (line call.BillingHours) list buffer ≡ billing_hours list)
+    × (call_by (line call.BillingVolume) list buffer ≡ billing_volume 999999999999999999)
+    × (call_by (line call.ControlHours) list buffer ≡ control_hours list)
+    × (call_by (line call.ControlVolume) list buffer ≡ control_volume 999999999999999999)
+    × (call_by (line call.Neighbour) list buffer ≡ neighbour 2 999999999999999999)
+    × (call_by (line call.Failure) list buffer ≡ failure 3)
+    × (call_by (line call.Admission) list buffer ≡ admission)
+    × (call_by (line call.Denial) list buffer ≡ denial)
+    × (call_by (line call.Permission) list buffer ≡ permission)
+    × (call_by (line call.Close) (0 ∷ 1 ∷ 2 ∷ 3 ∷ 255 ∷ []) buffer ≡ closing (0 ∷ 1 ∷ 2 ∷ 3 ∷ 255 ∷ []) buffer)
+    × (call_by (line call.Close) [] buffer ≡ closing [] buffer)
+    × (call_by (with_call call.BillingVolume fresh_line) list buffer ≡ billing_volume 0)
+    × (call_by (with_call call.Neighbour fresh_line) list buffer ≡ neighbour 0 0)
+    × (call_by (with_call call.Failure fresh_line) list buffer ≡ failure 0)
 unfolding call_definitions
 calls = (refl, refl, refl, refl, refl, refl, refl, refl, refl, refl, refl, refl, refl, refl)
 

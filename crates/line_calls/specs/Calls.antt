@@ -1,5 +1,5 @@
 -- THE CALL THAT A LINE MAKES: document 01's calls with the arguments that a line of a history file gives.
-use Rattle.std.specs.Prelude.{ℕ, ◌%◌, min, ◌≡◌, false, cond, List, [], eqb, length}
+use Rattle.std.specs.Prelude.{ℕ, ◌%◌, min, ◌≡◌, false, cond, List, [], length, Option, Some, unwrap_or}
 use Rattle.numbers.specs.Lists.{tab, at, Filled}
 use Rattle.calendar.specs.declared.Date.{Date}
 use Rattle.power.specs.declared.Cable.{Cable}
@@ -10,39 +10,39 @@ use Rattle.rules.specs.Calls.{denial, permission, closing, is_closing}
 use Rattle.model.specs.declared.Answer.{Answer}
 use Rattle.model.specs.Model.{state, Does}
 use Rattle.line_reader.specs.declared.Line.{Line}
-use Rattle.line_reader.specs.Codes.{billing_hours_call, billing_volume_call, control_hours_call, control_volume_call, neighbour_call, failure_call}
-use Rattle.line_reader.specs.Codes.{admission_call, denial_call, permission_call, year_key, month_key, billing_key, control_key, basis_key, power_key}
-use Rattle.line_reader.specs.Codes.{place_key, amperes_key, volts_key, cosine_key, phases_key, source_key, reason_key, volume_key}
-use Rattle.line_reader.specs.Names.{absent}
+use Rattle.line_reader.specs.declared.calls.Call.{Call as Named}
+use Rattle.line_reader.specs.declared.calls.Call.TheVariants as call
+use Rattle.line_reader.specs.declared.names.Argument.{Argument}
+use Rattle.line_reader.specs.declared.names.Argument.TheVariants as key
 use Rattle.line_reader.specs.Modes.{value_in}
 
 -- the value of an argument, 0 where it is not given; a line keeps all but volumes to 32 bits
-unfoldable pub argument_of : ℕ → Line → ℕ
-argument_of key line = cond (eqb (value_in key line) absent) 0 (value_in key line)
+unfoldable pub argument_of : Argument → Line → ℕ
+argument_of key line = unwrap_or (value_in key line) 0
 
-unfoldable pub field_of : ℕ → Line → ℕ
+unfoldable pub field_of : Argument → Line → ℕ
 field_of key line = argument_of key line % 4294967296
 
 -- AN OPENING
 unfoldable pub cable_by : Line → Cable
 cable_by line =
-    record { amperes = field_of amperes_key line; volts = field_of volts_key line; cosine = field_of cosine_key line; phases = field_of phases_key line }
+    record { amperes = field_of key.Amperes line; volts = field_of key.Volts line; cosine = field_of key.Cosine line; phases = field_of key.Phases line }
 
 unfoldable pub asked_by : Line → Contract
 asked_by line =
     record {
-      billing = field_of billing_key line;
-      control = field_of control_key line;
-      basis = field_of basis_key line;
-      power = record { 0 = field_of power_key line };
+      billing = field_of key.Billing line;
+      control = field_of key.Control line;
+      basis = field_of key.Basis line;
+      power = record { 0 = field_of key.Power line };
       cable = cable_by line;
     }
 
 unfoldable pub date_by : Line → Date
-date_by line = record { year = field_of year_key line; month = field_of month_key line }
+date_by line = record { year = field_of key.Year line; month = field_of key.Month line }
 
 unfoldable pub opening_by : Line → List ℕ → Opening
-opening_by line list = record { asked = asked_by line; date = date_by line; currents = list; place = argument_of place_key line }
+opening_by line list = record { asked = asked_by line; date = date_by line; currents = list; place = argument_of key.Place line }
 
 -- the marks of a closing: a byte for each number of the list, up to 4,096
 abbrev pub mark_at : List ℕ → ℕ → ℕ
@@ -56,18 +56,20 @@ pub record Copied (list before after : List ℕ) (n : ℕ) : Type 0 where
   pub filled : Filled (mark_at list) before after n
 
 -- ANY OTHER CALL; what is none of the others is a closing
+unfoldable pub call_as : Option Named → Line → List ℕ → List ℕ → Call
+call_as (Some call.BillingHours) line list buffer = billing_hours list
+call_as (Some call.BillingVolume) line list buffer = billing_volume (argument_of key.Volume line)
+call_as (Some call.ControlHours) line list buffer = control_hours list
+call_as (Some call.ControlVolume) line list buffer = control_volume (argument_of key.Volume line)
+call_as (Some call.Neighbour) line list buffer = neighbour (field_of key.Source line) (argument_of key.Volume line)
+call_as (Some call.Failure) line list buffer = failure (field_of key.Reason line)
+call_as (Some call.Admission) line list buffer = admission
+call_as (Some call.Denial) line list buffer = denial
+call_as (Some call.Permission) line list buffer = permission
+call_as _ line list buffer = closing (marks_from list) buffer
+
 unfoldable pub call_by : Line → List ℕ → List ℕ → Call
-call_by line list buffer =
-    let volume : ℕ = argument_of volume_key line in
-    cond (eqb line.call billing_hours_call) (billing_hours list)
-    (cond (eqb line.call billing_volume_call) (billing_volume volume)
-    (cond (eqb line.call control_hours_call) (control_hours list)
-    (cond (eqb line.call control_volume_call) (control_volume volume)
-    (cond (eqb line.call neighbour_call) (neighbour (field_of source_key line) volume)
-    (cond (eqb line.call failure_call) (failure (field_of reason_key line))
-    (cond (eqb line.call admission_call) admission
-    (cond (eqb line.call denial_call) denial
-    (cond (eqb line.call permission_call) permission (closing (marks_from list) buffer)))))))))
+call_by line list buffer = call_as line.call line list buffer
 
 -- WHAT A LINE DOES to a point: that call, and no call but a closing touches the hour buffer
 pub record Makes (line : Line) (list : List ℕ) (r : Record) (store buffer : List ℕ) (a : Answer) (store' buffer' : List ℕ) : Type 0 where

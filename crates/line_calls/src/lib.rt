@@ -13,9 +13,8 @@ use calendar::Date;
 use closing::close;
 use contract::Contract;
 use events::{admit, deny, fail, permit};
-use line_reader::{ABSENT, Line, calls, names, value_of};
+use line_reader::{Argument, Call, Line};
 use model::Answer;
-use numbers::least;
 use opening::open_point;
 use power::Cable;
 use readings::{
@@ -27,16 +26,15 @@ use units::{Kw, Kwh};
 
 // The value of an argument, 0 where it is not given.
 #[tactic(auto, unfolding(crate::specs::Calls::argument_of))]
-fn argument(line: Line, key: u32) -> u64
+fn argument(line: Line, key: Argument) -> u64
     ensures { result ≡ argument_of key line }
 {
-    let value = value_of(line, key);
-    if value == ABSENT { 0 } else { value }
+    line.value_of(key).unwrap_or(0)
 }
 
 // The same in 32 bits, which a line keeps it to.
 #[tactic(auto, unfolding(crate::specs::Calls::field_of))]
-fn field(line: Line, key: u32) -> u32
+fn field(line: Line, key: Argument) -> u32
     ensures { result ≡ field_of key line }
 {
     (argument(line, key) % 4294967296) as u32
@@ -47,15 +45,11 @@ fn field(line: Line, key: u32) -> u32
 fn cable_by(line: Line) -> Cable
     ensures { result ≡ cable_by line }
 {
-    let amperes = field(line, names::AMPERES);
-    let volts = field(line, names::VOLTS);
-    let cosine = field(line, names::COSINE);
-    let phases = field(line, names::PHASES);
     Cable {
-        amperes: amperes,
-        volts: volts,
-        cosine: cosine,
-        phases: phases,
+        amperes: field(line, Argument::Amperes),
+        volts: field(line, Argument::Volts),
+        cosine: field(line, Argument::Cosine),
+        phases: field(line, Argument::Phases),
     }
 }
 
@@ -64,17 +58,12 @@ fn cable_by(line: Line) -> Cable
 fn contract_by(line: Line) -> Contract
     ensures { result ≡ asked_by line }
 {
-    let billing = field(line, names::BILLING);
-    let control = field(line, names::CONTROL);
-    let basis = field(line, names::BASIS);
-    let power = Kw(field(line, names::POWER));
-    let cable = cable_by(line);
     Contract {
-        billing: billing,
-        control: control,
-        basis: basis,
-        power: power,
-        cable: cable,
+        billing: field(line, Argument::Billing),
+        control: field(line, Argument::Control),
+        basis: field(line, Argument::Basis),
+        power: Kw(field(line, Argument::Power)),
+        cable: cable_by(line),
     }
 }
 
@@ -83,11 +72,9 @@ fn contract_by(line: Line) -> Contract
 fn date_by(line: Line) -> Date
     ensures { result ≡ date_by line }
 {
-    let year = field(line, names::YEAR);
-    let month = field(line, names::MONTH);
     Date {
-        year: year,
-        month: month,
+        year: field(line, Argument::Year),
+        month: field(line, Argument::Month),
     }
 }
 
@@ -98,7 +85,7 @@ pub fn open_by(line: Line, list: &[u32], store: &mut [u32]) -> Answer
 {
     let asked = contract_by(line);
     let date = date_by(line);
-    let place = argument(line, names::PLACE) as usize;
+    let place = argument(line, Argument::Place) as usize;
     open_point(asked, date, list, place, store)
 }
 
@@ -114,16 +101,15 @@ pub fn no_marks() -> [u8; 4096]
 pub fn copy_marks(list: &[u32], marks: &mut [u8]) -> usize
     ensures { Copied list.now marks.old marks.new result }
 {
-    let n = least(list.len() as u64, marks.len() as u64) as usize;
-    let mut k = 0;
-    while k < n {
+    let n = list.len().min(marks.len());
+    for k in 0..n {
         marks[k] = (list[k] % 256) as u8;
-        k += 1;
     }
     n
 }
 
 // Closes the month with the marks of a list.
+#[tactic(auto, using(crate::proofs::Marks::marks_made))]
 fn close_by(list: &[u32], r: Record, store: &mut [u32], hours: &mut [u32]) -> Answer
     ensures { Does (state r store.old) (closing (marks_from list.now) hours.old) result store.new hours.new }
 {
@@ -133,6 +119,7 @@ fn close_by(list: &[u32], r: Record, store: &mut [u32], hours: &mut [u32]) -> An
 }
 
 // Makes the call of a line that is no opening, on a point. The list is that of the line.
+#[tactic(auto, unfolding(crate::specs::Calls::call_by, crate::specs::Calls::call_as, rules::specs::Calls::is_closing))]
 pub fn make_call(
     line: Line,
     list: &[u32],
@@ -142,18 +129,17 @@ pub fn make_call(
 ) -> Answer
     ensures { Makes line list.now r store.old hours.old result store.new hours.new }
 {
-    let volume = Kwh(argument(line, names::VOLUME));
-    let call = line.call;
-    match call {
-        calls::BILLING_HOURS => read_billing_hours(r, store, list),
-        calls::BILLING_VOLUME => read_billing_volume(r, store, volume),
-        calls::CONTROL_HOURS => read_control_hours(r, store, list),
-        calls::CONTROL_VOLUME => read_control_volume(r, store, volume),
-        calls::NEIGHBOUR => read_neighbour(r, store, field(line, names::SOURCE), volume),
-        calls::FAILURE => fail(r, store, field(line, names::REASON)),
-        calls::ADMISSION => admit(r, store),
-        calls::DENIAL => deny(r, store),
-        calls::PERMISSION => permit(r, store),
+    let volume = Kwh(argument(line, Argument::Volume));
+    match line.call {
+        Some(Call::BillingHours) => read_billing_hours(r, store, list),
+        Some(Call::BillingVolume) => read_billing_volume(r, store, volume),
+        Some(Call::ControlHours) => read_control_hours(r, store, list),
+        Some(Call::ControlVolume) => read_control_volume(r, store, volume),
+        Some(Call::Neighbour) => read_neighbour(r, store, field(line, Argument::Source), volume),
+        Some(Call::Failure) => fail(r, store, field(line, Argument::Reason)),
+        Some(Call::Admission) => admit(r, store),
+        Some(Call::Denial) => deny(r, store),
+        Some(Call::Permission) => permit(r, store),
         _ => close_by(list, r, store, hours),
     }
 }

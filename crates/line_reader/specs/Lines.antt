@@ -1,13 +1,17 @@
 -- THE READING OF A LINE (docs/HISTORY-FILE.md): its call with the arguments and the list, or its error, from its bytes.
-use Rattle.std.specs.Prelude.{ℕ, zero, suc, ◌≡◌, ◌⊎◌, ◌≢◌, cond, List, eqb, leb, length, replicate}
+use Rattle.std.specs.Prelude.{ℕ, zero, suc, ◌≡◌, ◌⊎◌, ◌≢◌, Bool, true, false, cond, List, length, replicate, Option, Some, None}
+use Rattle.line_tokens.specs.declared.Kind.{Kind}
+use Rattle.line_tokens.specs.declared.Kind.TheVariants as kind
 use Rattle.line_tokens.specs.declared.Token.{Token}
-use Rattle.line_tokens.specs.Kinds.{foreign_kind, long_kind}
 use Rattle.line_tokens.specs.Tokens.{token_at}
+use Rattle.line_reader.specs.declared.errors.Error.TheVariants as error
+use Rattle.line_reader.specs.declared.errors.Fault.{Fault}
+use Rattle.line_reader.specs.declared.Mode.{Mode}
+use Rattle.line_reader.specs.declared.Mode.TheVariants as mode
+use Rattle.line_reader.specs.declared.Depth.TheVariants.{Outside}
 use Rattle.line_reader.specs.declared.Line.{Line}
-use Rattle.line_reader.specs.Codes.{call_mode, value_mode, dash_mode, argument_mode, form_mode, list_mode, group_mode, counted_mode, day_mode}
-use Rattle.line_reader.specs.Codes.{read_mode, failed_mode, no_call, year_key, no_error, foreign_error, large_error, outside_depth, no_action}
+use Rattle.line_reader.specs.Codes.{error_number}
 use Rattle.line_reader.specs.Changes.{with_error, with_numbers, moved_to, without_action}
-use Rattle.line_reader.specs.Names.{absent}
 use Rattle.line_reader.specs.Modes.{in_call, in_value, in_dash, in_argument, in_form, in_list, in_group, in_counted, in_day, in_last}
 use Rattle.line_reader.specs.Buffers.{written_numbers, written_group}
 
@@ -15,40 +19,48 @@ use Rattle.line_reader.specs.Buffers.{written_numbers, written_group}
 abbrev pub fresh_line : Line
 fresh_line =
     record {
-      mode = call_mode;
+      mode = mode.Call;
       at = 0;
-      call = no_call;
-      error = no_error;
-      place = 0;
-      key = year_key;
-      values = replicate 15 absent;
-      numbers =
-          record { limit = 4294967295; count = 0; inner = 0; times = 0; repeat = 0; depth = outside_depth; fresh = 1; action = no_action; value = 0 };
+      call = None;
+      values = replicate 15 None;
+      numbers = record { limit = 4294967295; count = 0; inner = 0; times = 0; repeat = 0; depth = Outside; fresh = true; action = None };
     }
 
--- what a token does, by what is expected outside lists
-unfoldable pub after_token_in_call : Line → Token → Line
-after_token_in_call s t =
-    cond (eqb s.mode call_mode) (in_call s t)
-    (cond (eqb s.mode value_mode) (in_value s t)
-    (cond (eqb s.mode dash_mode) (in_dash s t)
-    (cond (eqb s.mode argument_mode) (in_argument s t)
-    (cond (eqb s.mode form_mode) (in_form s t) (in_last s t)))))
+-- what a token does, by what is expected
+unfoldable pub in_mode : ℕ → Mode → Kind → ℕ → Line → Line
+in_mode hours mode.Call t place s = in_call t place s
+in_mode hours (mode.Value key) t place s = in_value key t place s
+in_mode hours mode.Dash t place s = in_dash t place s
+in_mode hours mode.Argument t place s = in_argument t place s
+in_mode hours mode.Form t place s = in_form t place s
+in_mode hours mode.List t place s = in_list t place s
+in_mode hours mode.Group t place s = in_group hours t place s
+in_mode hours mode.Counted t place s = in_counted t place s
+in_mode hours mode.Day t place s = in_day t place s
+in_mode hours _ t place s = in_last t place s
 
 -- a foreign byte and a number of too many digits go before all else
-unfoldable pub after_token : ℕ → Line → Token → Line
-after_token hours s t =
-    cond (eqb t.kind foreign_kind) (with_error foreign_error t.from s)
-    (cond (eqb t.kind long_kind) (with_error large_error t.from s)
-    (cond (eqb s.mode list_mode) (in_list s t)
-    (cond (eqb s.mode group_mode) (in_group hours s t)
-    (cond (eqb s.mode counted_mode) (in_counted s t)
-    (cond (eqb s.mode day_mode) (in_day s t) (after_token_in_call s t))))))
+unfoldable pub after_token : ℕ → Kind → ℕ → Line → Line
+after_token hours kind.Foreign place s = with_error error.Foreign place s
+after_token hours kind.Long place s = with_error error.Large place s
+after_token hours t place s = in_mode hours s.mode t place s
 
 -- the next token of the line
 unfoldable pub next_token : ℕ → List ℕ → Line → Line
 next_token hours line s =
-    moved_to (token_at line s.at).to (after_token hours (with_numbers s.mode (without_action s.numbers) s) (token_at line s.at))
+    let t : Token = token_at line s.at in
+    moved_to t.to (after_token hours t.kind t.from (with_numbers s.mode (without_action s.numbers) s))
+
+-- a line is finished where it is read or failed
+unfoldable pub is_finished : Mode → Bool
+is_finished mode.Read = true
+is_finished (mode.Failed fault) = true
+is_finished _ = false
+
+-- the error of a line that failed
+unfoldable pub fault_in : Mode → Option Fault
+fault_in (mode.Failed fault) = Some fault
+fault_in _ = None
 
 -- a line as far as it is read, the numbers of its list, and those between parentheses
 pub record LineRead : Type 0 where
@@ -63,7 +75,7 @@ line_read s numbers group = record { line = s; numbers = numbers; group = group 
 unfoldable pub read_token : ℕ → ℕ → List ℕ → LineRead → LineRead
 read_token hours first line r =
     let s : Line = next_token hours line r.line in
-    cond (leb read_mode r.line.mode) r
+    cond (is_finished r.line.mode) r
     (line_read s (written_numbers first r.line.numbers s.numbers r.numbers r.group) (written_group r.line.numbers s.numbers r.group))
 
 unfoldable pub read_tokens : ℕ → ℕ → ℕ → List ℕ → LineRead → LineRead
@@ -75,6 +87,15 @@ unfoldable pub read_line : ℕ → ℕ → List ℕ → List ℕ → List ℕ �
 read_line hours first line numbers group =
     read_token hours first line (read_tokens (length line) hours first line (line_read fresh_line numbers group))
 
+-- the error that a line ended with, and its place
+unfoldable pub fault_of : Line → Option Fault
+fault_of s = fault_in s.mode
+
+-- the number of an error, and 0 where there is none
+unfoldable pub fault_number : Option Fault → ℕ
+fault_number (Some fault) = error_number fault.error
+fault_number None = 0
+
 -- a line that is read has no error, and one that failed has one
 abbrev pub Ended : Line → Type 0
-Ended s = ((s.mode ≡ read_mode) × (s.error ≡ no_error)) ⊎ ((s.mode ≡ failed_mode) × (s.error ≢ no_error))
+Ended s = ((s.mode ≡ mode.Read) × (fault_number (fault_of s) ≡ 0)) ⊎ ((s.mode ≢ mode.Read) × (fault_number (fault_of s) ≢ 0))

@@ -1,176 +1,211 @@
--- What a token does, by what is expected (docs/HISTORY-FILE.md).
-use Rattle.std.specs.Prelude.{ℕ, ◌+◌, ◌*◌, ◌%◌, min, Bool, not, cond, ◌&&◌, ◌||◌, eqb, leb, ltb, get_or}
-use Rattle.line_tokens.specs.declared.Token.{Token}
-use Rattle.line_tokens.specs.Kinds.{number_kind, word_kind, end_kind, left_kind, right_kind, dash_kind, count_kind}
+-- What a token does, by what is expected: its kind, and its place (docs/HISTORY-FILE.md).
+use Rattle.std.specs.Prelude.{ℕ, ◌+◌, ◌*◌, ◌%◌, min, Bool, true, false, cond, eqb, ltb, get_or, Option, Some, None, is_some, option_and_then}
+use Rattle.line_tokens.specs.declared.words.Word.{Word}
+use Rattle.line_tokens.specs.declared.words.Word.TheVariants as word
+use Rattle.line_tokens.specs.declared.Kind.{Kind}
+use Rattle.line_tokens.specs.declared.Kind.TheVariants as kind
+use Rattle.line_reader.specs.declared.calls.Call.{Call}
+use Rattle.line_reader.specs.declared.calls.Call.TheVariants as call
+use Rattle.line_reader.specs.declared.errors.Error.TheVariants as error
+use Rattle.line_reader.specs.declared.names.Argument.{Argument}
+use Rattle.line_reader.specs.declared.names.Argument.TheVariants as key
+use Rattle.line_reader.specs.declared.Mode.{Mode}
+use Rattle.line_reader.specs.declared.Mode.TheVariants as mode
+use Rattle.line_reader.specs.declared.Depth.{Depth}
+use Rattle.line_reader.specs.declared.Depth.TheVariants.{Outside, Repetition, FirstDay, SecondDay}
+use Rattle.line_reader.specs.declared.Action.{Action}
+use Rattle.line_reader.specs.declared.Action.TheVariants.{Number, InGroup, Group, Week}
 use Rattle.line_reader.specs.declared.Numbers.{Numbers}
 use Rattle.line_reader.specs.declared.Line.{Line}
-use Rattle.line_reader.specs.Codes.{value_mode, dash_mode, argument_mode, form_mode, list_mode, group_mode, counted_mode, day_mode, last_mode}
-use Rattle.line_reader.specs.Codes.{read_mode, no_call, open_call, billing_hours_call, billing_volume_call, control_hours_call, control_volume_call}
-use Rattle.line_reader.specs.Codes.{neighbour_call, failure_call, admission_call, permission_call, close_call, year_key, month_key, phases_key}
-use Rattle.line_reader.specs.Codes.{currents_key, source_key, reason_key, volume_key, no_key, call_error, dash_error, argument_error, twice_error}
-use Rattle.line_reader.specs.Codes.{form_error, large_error, part_error, day_error, item_error, day_length_error, list_length_error, counted_error}
-use Rattle.line_reader.specs.Codes.{last_error, outside_depth, repetition_depth, first_day_depth, second_day_depth, number_action, in_group_action}
-use Rattle.line_reader.specs.Codes.{group_action, week_action}
-use Rattle.line_reader.specs.Changes.{with_mode, with_error, asking, with_call, with_value, with_numbers, with_limit, with_times}
-use Rattle.line_reader.specs.Names.{is_word, call_of, key_of, absent, word_value, expected_for, largest_for}
-
--- the token is a word, with a value of its own, else another
-abbrev pub if_word : Token → ℕ → ℕ → ℕ
-if_word t x y = cond (eqb t.kind word_kind) x y
+use Rattle.line_reader.specs.Codes.{index_of}
+use Rattle.line_reader.specs.Changes.{with_mode, with_error, with_call, with_value, with_numbers, with_limit, with_times}
+use Rattle.line_reader.specs.Names.{call_of, key_of, word_value, expected_for, largest_for}
 
 -- THE CALL
 -- behind the call's word: the year of an opening, the source of a neighbour reading, the reason of a failure; hours or volume; nothing;
--- the marks, of at most 255
-unfoldable pub begun : ℕ → Line → Line
-begun call s =
-    with_numbers
-    (cond (eqb call close_call) list_mode
-    (cond (eqb call billing_hours_call || eqb call control_hours_call) form_mode
-    (cond (leb admission_call call && leb call permission_call) last_mode value_mode)))
-    (with_limit (cond (eqb call close_call) 255 4294967295) s.numbers)
-    (with_call call (asking (cond (eqb call neighbour_call) source_key (cond (eqb call failure_call) reason_key year_key)) s))
+-- the marks
+unfoldable pub behind_call : Call → Mode
+behind_call call.Close = mode.List
+behind_call call.BillingHours = mode.Form
+behind_call call.ControlHours = mode.Form
+behind_call call.Admission = mode.Last
+behind_call call.Denial = mode.Last
+behind_call call.Permission = mode.Last
+behind_call call.Neighbour = mode.Value key.Source
+behind_call call.Failure = mode.Value key.Reason
+behind_call _ = mode.Value key.Year
 
-unfoldable pub in_call : Line → Token → Line
-in_call s t =
-    let call : ℕ = if_word t (call_of t.value) no_call in
-    cond (eqb t.kind end_kind) (with_mode read_mode s) (cond (eqb call no_call) (with_error call_error t.from s) (begun call s))
+-- marks are of at most 255
+unfoldable pub limit_for : Call → ℕ
+limit_for call.Close = 255
+limit_for _ = 4294967295
+
+unfoldable pub begun : Call → Line → Line
+begun call s = with_numbers (behind_call call) (with_limit (limit_for call) s.numbers) (with_call call s)
+
+-- a word that starts a call, or none
+unfoldable pub called : Option Call → ℕ → Line → Line
+called (Some call) place s = begun call s
+called None place s = with_error error.Call place s
+
+unfoldable pub in_call : Kind → ℕ → Line → Line
+in_call kind.End place s = with_mode mode.Read s
+in_call (kind.Word (Some w)) place s = called (call_of w) place s
+in_call _ place s = with_error error.Call place s
 
 -- ARGUMENTS
 -- behind a value: the - of a year, the volume of a neighbour reading, the next argument of an opening, or nothing
-unfoldable pub value_taken : ℕ → Line → Line
-value_taken v s =
-    with_mode (cond (eqb s.key year_key) dash_mode (cond (eqb s.key source_key) value_mode (cond (leb s.key phases_key) argument_mode last_mode)))
-    (asking (cond (eqb s.key source_key) volume_key s.key) (with_value s.key v s))
+unfoldable pub behind_value : Argument → Mode
+behind_value key.Year = mode.Dash
+behind_value key.Source = mode.Value key.Volume
+behind_value key.Currents = mode.Last
+behind_value key.Reason = mode.Last
+behind_value key.Volume = mode.Last
+behind_value _ = mode.Argument
 
-unfoldable pub in_value : Line → Token → Line
-in_value s t =
-    let v : ℕ = if_word t (word_value s.key t.value) absent in
-    cond (eqb t.kind number_kind)
-    (cond (ltb (largest_for s.key) t.value) (with_error large_error t.from s) (value_taken t.value s))
-    (cond (eqb v absent) (with_error (expected_for s.key) t.from s) (value_taken v s))
+unfoldable pub value_taken : Argument → ℕ → Line → Line
+value_taken key v s = with_mode (behind_value key) (with_value key v s)
 
-unfoldable pub in_dash : Line → Token → Line
-in_dash s t = cond (eqb t.kind dash_kind) (asking month_key s) (with_error dash_error t.from s)
+-- a word that is a value of the argument, or none
+unfoldable pub value_given : Argument → Option ℕ → ℕ → Line → Line
+value_given key (Some v) place s = value_taken key v s
+value_given key None place s = with_error (expected_for key) place s
 
-unfoldable pub value_in : ℕ → Line → ℕ
-value_in key s = cond (ltb key no_key) (get_or s.values key 0) absent
+unfoldable pub in_value : Argument → Kind → ℕ → Line → Line
+in_value key (kind.Number v) place s = cond (ltb (largest_for key) v) (with_error error.Large place s) (value_taken key v s)
+in_value key (kind.Word (Some w)) place s = value_given key (word_value key w) place s
+in_value key _ place s = with_error (expected_for key) place s
 
--- each argument at most once; behind `currents` a list
-unfoldable pub named_as : ℕ → Line → Token → Line
-named_as key s t =
-    cond (eqb key no_key) (with_error argument_error t.from s)
-    (cond (not (eqb (value_in key s) absent)) (with_error twice_error t.from s)
-    (cond (eqb key currents_key) (with_mode list_mode (with_value key 0 s)) (asking key s)))
+unfoldable pub in_dash : Kind → ℕ → Line → Line
+in_dash kind.Dash place s = with_mode (mode.Value key.Month) s
+in_dash _ place s = with_error error.Dash place s
 
-unfoldable pub in_argument : Line → Token → Line
-in_argument s t = cond (eqb t.kind end_kind) (with_mode read_mode s) (named_as (if_word t (key_of t.value) no_key) s t)
+unfoldable pub value_in : Argument → Line → Option ℕ
+value_in key s = get_or s.values (index_of key) None
 
-unfoldable pub in_form : Line → Token → Line
-in_form s t =
-    let word : Bool = eqb t.kind word_kind in
-    cond (word && is_word t.value "hours") (with_mode list_mode s)
-    (cond (word && is_word t.value "volume")
-    (with_call (cond (eqb s.call billing_hours_call) billing_volume_call control_volume_call) (asking volume_key s))
-    (with_error form_error t.from s))
+-- behind `currents` a list, behind any other argument its value
+unfoldable pub asked_for : Argument → Line → Line
+asked_for key.Currents s = with_mode mode.List (with_value key.Currents 0 s)
+asked_for key s = with_mode (mode.Value key) s
 
-unfoldable pub in_last : Line → Token → Line
-in_last s t = cond (eqb t.kind end_kind) (with_mode read_mode s) (with_error last_error t.from s)
+-- each argument at most once
+unfoldable pub named_as : Option Argument → ℕ → Line → Line
+named_as None place s = with_error error.Argument place s
+named_as (Some key) place s = cond (is_some (value_in key s)) (with_error error.Twice place s) (asked_for key s)
+
+unfoldable pub in_argument : Kind → ℕ → Line → Line
+in_argument kind.End place s = with_mode mode.Read s
+in_argument (kind.Word w) place s = named_as (option_and_then key_of w) place s
+in_argument _ place s = with_error error.Argument place s
+
+-- the call of a meter's volume, from that of its hours
+unfoldable pub volume_call : Option Call → Call
+volume_call (Some call.BillingHours) = call.BillingVolume
+volume_call _ = call.ControlVolume
+
+unfoldable pub in_form : Kind → ℕ → Line → Line
+in_form (kind.Word (Some word.Hours)) place s = with_mode mode.List s
+in_form (kind.Word (Some word.Volume)) place s = with_mode (mode.Value key.Volume) (with_call (volume_call s.call) s)
+in_form _ place s = with_error error.Form place s
+
+unfoldable pub in_last : Kind → ℕ → Line → Line
+in_last kind.End place s = with_mode mode.Read s
+in_last _ place s = with_error error.Last place s
 
 -- LISTS
+-- whether parentheses are open
+unfoldable pub is_inside : Depth → Bool
+is_inside Outside = false
+is_inside _ = true
+
 unfoldable pub added_to : Numbers → ℕ → ℕ → Numbers
 added_to n times v =
-    let inside : Bool = ltb outside_depth n.depth in
-    record {
-      limit = n.limit;
-      count = cond inside n.count (min (n.count + times) 4096);
-      inner = cond inside (min (n.inner + times) 4096) n.inner;
-      times = n.times;
-      repeat = n.repeat;
-      depth = n.depth;
-      fresh = 0;
-      action = cond inside in_group_action number_action;
-      value = v % 4294967296;
-    }
+    let value : ℕ = v % 4294967296 in
+    cond (is_inside n.depth)
+    (record n { inner = min (n.inner + times) 4096; fresh = false; action = Some (InGroup value) })
+    (record n { count = min (n.count + times) 4096; fresh = false; action = Some (Number value) })
+
+-- behind a number another part, or between parentheses another item
+unfoldable pub behind_item : Depth → Mode
+behind_item Outside = mode.List
+behind_item _ = mode.Group
 
 -- a number, so many times: not above the limit, and not too many
-unfoldable pub adding : ℕ → Line → Token → Line
-adding times s t =
+unfoldable pub adding : ℕ → ℕ → ℕ → Line → Line
+adding times v place s =
     let n : Numbers = s.numbers in
-    cond (ltb n.limit t.value) (with_error large_error t.from s)
-    (cond (ltb 4096 (n.count + n.inner + times)) (with_error list_length_error t.from s)
-    (with_numbers (cond (ltb outside_depth n.depth) group_mode list_mode) (added_to n times t.value) s))
+    cond (ltb n.limit v) (with_error error.Large place s)
+    (cond (ltb 4096 (n.count + n.inner + times)) (with_error error.ListLength place s)
+    (with_numbers (behind_item n.depth) (added_to n times v) s))
 
-unfoldable pub counting : Line → Token → Line
-counting s t =
-    cond (ltb 4096 t.value) (with_error list_length_error t.from s) (with_numbers counted_mode (with_times (min t.value 4096) s.numbers) s)
+unfoldable pub counting : ℕ → ℕ → Line → Line
+counting v place s =
+    cond (ltb 4096 v) (with_error error.ListLength place s) (with_numbers mode.Counted (with_times (min v 4096) s.numbers) s)
 
--- a word: in an opening the next argument, but not as the first part; else `week`, or `none` as the first part
-unfoldable pub word_in : Line → Token → Line
-word_in s t =
-    let fresh : Bool = eqb s.numbers.fresh 1 in
-    cond (eqb s.call open_call) (cond fresh (with_error part_error t.from s) (in_argument s t))
-    (cond (is_word t.value "week") (with_mode day_mode s) (cond (fresh && is_word t.value "none") (with_mode last_mode s) (with_error part_error t.from s)))
+unfoldable pub is_opening : Option Call → Bool
+is_opening (Some call.Open) = true
+is_opening _ = false
 
-unfoldable pub in_list : Line → Token → Line
-in_list s t =
-    cond (eqb t.kind number_kind) (adding 1 s t)
-    (cond (eqb t.kind count_kind) (counting s t)
-    (cond (eqb t.kind word_kind) (word_in s t)
-    (cond (eqb t.kind end_kind && not (eqb s.numbers.fresh 1)) (with_mode read_mode s) (with_error part_error t.from s))))
+-- `week`, or `none` as the first part
+unfoldable pub list_word : Option Word → ℕ → Line → Line
+list_word (Some word.Week) place s = with_mode mode.Day s
+list_word (Some word.None) place s = cond s.numbers.fresh (with_mode mode.Last s) (with_error error.Part place s)
+list_word _ place s = with_error error.Part place s
 
-unfoldable pub closed_numbers : Numbers → ℕ → ℕ → Numbers
+-- a word: in an opening the next argument, but not as the first part
+unfoldable pub word_in : Option Word → ℕ → Line → Line
+word_in w place s =
+    cond (is_opening s.call)
+    (cond s.numbers.fresh (with_error error.Part place s) (named_as (option_and_then key_of w) place s))
+    (list_word w place s)
+
+unfoldable pub in_list : Kind → ℕ → Line → Line
+in_list (kind.Number v) place s = adding 1 v place s
+in_list (kind.Count v) place s = counting v place s
+in_list (kind.Word w) place s = word_in w place s
+in_list kind.End place s = cond s.numbers.fresh (with_error error.Part place s) (with_mode mode.Read s)
+in_list _ place s = with_error error.Part place s
+
+unfoldable pub closed_numbers : Numbers → ℕ → Action → Numbers
 closed_numbers n count action =
-    record {
-      limit = n.limit;
-      count = min count 4096;
-      inner = 0;
-      times = n.times;
-      repeat = n.repeat;
-      depth = outside_depth;
-      fresh = 0;
-      action = action;
-      value = n.value;
-    }
+    record n { count = min count 4096; inner = 0; depth = Outside; fresh = false; action = Some action }
+
+-- the list behind closed parentheses has so many numbers
+unfoldable pub repeated : ℕ → Action → ℕ → Line → Line
+repeated total action place s =
+    cond (ltb 4096 total) (with_error error.ListLength place s) (with_numbers mode.List (closed_numbers s.numbers total action) s)
 
 -- the parentheses close. A day has 24 numbers, both of a week 48; a week stands for T hours, a repetition for its numbers so many times
-unfoldable pub group_closed : ℕ → Line → Token → Line
-group_closed hours s t =
-    let n : Numbers = s.numbers in
-    let week : Bool = eqb n.depth second_day_depth in
-    let total : ℕ = n.count + cond week 1 n.repeat * cond week hours n.inner in
-    cond (eqb n.depth first_day_depth) (cond (not (eqb n.inner 24)) (with_error day_length_error t.from s) (with_mode day_mode s))
-    (cond (week && not (eqb n.inner 48)) (with_error day_length_error t.from s)
-    (cond (ltb 4096 total) (with_error list_length_error t.from s) (with_numbers list_mode (closed_numbers n total (cond week week_action group_action)) s)))
+unfoldable pub closed_at : Depth → ℕ → ℕ → Line → Line
+closed_at FirstDay hours place s = cond (eqb s.numbers.inner 24) (with_mode mode.Day s) (with_error error.DayLength place s)
+closed_at SecondDay hours place s =
+    cond (eqb s.numbers.inner 48) (repeated (s.numbers.count + hours) Week place s) (with_error error.DayLength place s)
+closed_at _ hours place s = repeated (s.numbers.count + s.numbers.repeat * s.numbers.inner) Group place s
 
-unfoldable pub in_group : ℕ → Line → Token → Line
-in_group hours s t =
-    cond (eqb t.kind number_kind) (adding 1 s t)
-    (cond (eqb t.kind count_kind) (counting s t)
-    (cond (eqb t.kind right_kind && not (eqb s.numbers.fresh 1)) (group_closed hours s t) (with_error item_error t.from s)))
+unfoldable pub group_closed : ℕ → ℕ → Line → Line
+group_closed hours place s = closed_at s.numbers.depth hours place s
 
-unfoldable pub opened_numbers : Numbers → ℕ → Numbers
-opened_numbers n depth =
-    record {
-      limit = n.limit;
-      count = n.count;
-      inner = n.inner;
-      times = n.times;
-      repeat = n.times;
-      depth = depth;
-      fresh = 1;
-      action = n.action;
-      value = n.value;
-    }
+unfoldable pub in_group : ℕ → Kind → ℕ → Line → Line
+in_group hours (kind.Number v) place s = adding 1 v place s
+in_group hours (kind.Count v) place s = counting v place s
+in_group hours kind.Right place s = cond s.numbers.fresh (with_error error.Item place s) (group_closed hours place s)
+in_group hours _ place s = with_error error.Item place s
+
+unfoldable pub opened_numbers : Numbers → Depth → Numbers
+opened_numbers n depth = record n { repeat = n.times; depth = depth; fresh = true }
 
 -- behind a count a number, or outside parentheses a (
-unfoldable pub in_counted : Line → Token → Line
-in_counted s t =
-    cond (eqb t.kind number_kind) (adding s.numbers.times s t)
-    (cond (eqb t.kind left_kind && eqb s.numbers.depth outside_depth)
-    (with_numbers group_mode (opened_numbers s.numbers repetition_depth) s) (with_error counted_error t.from s))
+unfoldable pub in_counted : Kind → ℕ → Line → Line
+in_counted (kind.Number v) place s = adding s.numbers.times v place s
+in_counted kind.Left place s =
+    cond (is_inside s.numbers.depth) (with_error error.Counted place s) (with_numbers mode.Group (opened_numbers s.numbers Repetition) s)
+in_counted _ place s = with_error error.Counted place s
 
 -- the ( of the first day of a week, or of the second
-unfoldable pub in_day : Line → Token → Line
-in_day s t =
-    let depth : ℕ = cond (eqb s.numbers.depth first_day_depth) second_day_depth first_day_depth in
-    cond (eqb t.kind left_kind) (with_numbers group_mode (opened_numbers s.numbers depth) s) (with_error day_error t.from s)
+unfoldable pub next_day : Depth → Depth
+next_day FirstDay = SecondDay
+next_day _ = FirstDay
+
+unfoldable pub in_day : Kind → ℕ → Line → Line
+in_day kind.Left place s = with_numbers mode.Group (opened_numbers s.numbers (next_day s.numbers.depth)) s
+in_day _ place s = with_error error.Day place s

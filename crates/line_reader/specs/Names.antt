@@ -1,89 +1,88 @@
 -- What the words of a history file stand for (docs/HISTORY-FILE.md, 'Calls').
-use Rattle.std.specs.Prelude.{ℕ, ◌+◌, ◌*◌, ◌%◌, Bool, cond, ◌&&◌, ◌||◌, eqb}
-use Prim.Native.Char.{code}
-use Prim.Native.String.{String, [], ◌∷◌}
-use Rattle.line_reader.specs.Codes.{no_call, open_call, billing_hours_call, control_hours_call, neighbour_call, failure_call, admission_call}
-use Rattle.line_reader.specs.Codes.{denial_call, permission_call, close_call, billing_key, control_key, basis_key, power_key, place_key, amperes_key}
-use Rattle.line_reader.specs.Codes.{volts_key, cosine_key, phases_key, currents_key, source_key, reason_key, volume_key, no_key, number_error}
-use Rattle.line_reader.specs.Codes.{meter_error, basis_error, source_error, reason_error}
-
--- the value of a word: its letters in base 32, a 1 to z 26, behind those that gave v
-abbrev pub spelled_from : ℕ → String → ℕ
-spelled_from v [] = v
-spelled_from v (c ∷ s) = spelled_from (v * 32 + code c % 32) s
-
-abbrev pub spelled : String → ℕ
-spelled s = spelled_from 0 s
-
-abbrev pub is_word : ℕ → String → Bool
-is_word w s = eqb w (spelled s)
+use Rattle.std.specs.Prelude.{ℕ, Option, Some, None}
+use Rattle.line_tokens.specs.declared.words.Word.{Word}
+use Rattle.line_tokens.specs.declared.words.Word.TheVariants as word
+use Rattle.line_reader.specs.declared.calls.Call.{Call}
+use Rattle.line_reader.specs.declared.calls.Call.TheVariants as call
+use Rattle.line_reader.specs.declared.errors.Error.{Error}
+use Rattle.line_reader.specs.declared.errors.Error.TheVariants as error
+use Rattle.line_reader.specs.declared.names.Argument.{Argument}
+use Rattle.line_reader.specs.declared.names.Argument.TheVariants as key
 
 -- the call that a word starts; the call of a meter's hours stands for both of its readings
-unfoldable pub call_of : ℕ → ℕ
-call_of w =
-    cond (is_word w "open") open_call
-    (cond (is_word w "billing") billing_hours_call
-    (cond (is_word w "control") control_hours_call
-    (cond (is_word w "neighbour") neighbour_call
-    (cond (is_word w "failure") failure_call
-    (cond (is_word w "admission") admission_call
-    (cond (is_word w "denial") denial_call
-    (cond (is_word w "permission") permission_call
-    (cond (is_word w "close") close_call no_call))))))))
+unfoldable pub call_of : Word → Option Call
+call_of word.Open = Some call.Open
+call_of word.Billing = Some call.BillingHours
+call_of word.Control = Some call.ControlHours
+call_of word.Neighbour = Some call.Neighbour
+call_of word.Failure = Some call.Failure
+call_of word.Admission = Some call.Admission
+call_of word.Denial = Some call.Denial
+call_of word.Permission = Some call.Permission
+call_of word.Close = Some call.Close
+call_of _ = None
 
 -- the argument that a word of an opening names
-unfoldable pub key_of : ℕ → ℕ
-key_of w =
-    cond (is_word w "billing") billing_key
-    (cond (is_word w "control") control_key
-    (cond (is_word w "basis") basis_key
-    (cond (is_word w "power") power_key
-    (cond (is_word w "place") place_key
-    (cond (is_word w "amperes") amperes_key
-    (cond (is_word w "volts") volts_key
-    (cond (is_word w "cosine") cosine_key
-    (cond (is_word w "phases") phases_key
-    (cond (is_word w "currents") currents_key no_key)))))))))
+unfoldable pub key_of : Word → Option Argument
+key_of word.Billing = Some key.Billing
+key_of word.Control = Some key.Control
+key_of word.Basis = Some key.Basis
+key_of word.Power = Some key.Power
+key_of word.Place = Some key.Place
+key_of word.Amperes = Some key.Amperes
+key_of word.Volts = Some key.Volts
+key_of word.Cosine = Some key.Cosine
+key_of word.Phases = Some key.Phases
+key_of word.Currents = Some key.Currents
+key_of _ = None
 
--- a value that is not given
-abbrev pub absent : ℕ
-absent = 18446744073709551615
+-- the number that a word stands for as a meter
+unfoldable pub meter_word : Word → Option ℕ
+meter_word word.None = Some 0
+meter_word word.Interval = Some 1
+meter_word word.Integral = Some 2
+meter_word _ = None
 
--- the number that a word stands for as a meter or a basis
-unfoldable pub contract_word : ℕ → ℕ → ℕ
-contract_word key w =
-    let meter : Bool = eqb key billing_key || eqb key control_key in
-    let basis : Bool = eqb key basis_key in
-    cond (meter && is_word w "none") 0
-    (cond (meter && is_word w "interval") 1
-    (cond (meter && is_word w "integral") 2
-    (cond (basis && is_word w "agreed") 1
-    (cond (basis && is_word w "shared") 2
-    (cond (basis && is_word w "cable") 3 absent)))))
+-- as a basis
+unfoldable pub basis_word : Word → Option ℕ
+basis_word word.Agreed = Some 1
+basis_word word.Shared = Some 2
+basis_word word.Cable = Some 3
+basis_word _ = None
 
--- and as a source or a reason
-unfoldable pub event_word : ℕ → ℕ → ℕ
-event_word key w =
-    let source : Bool = eqb key source_key in
-    let reason : Bool = eqb key reason_key in
-    cond (source && is_word w "billing") 1
-    (cond (source && is_word w "control") 2
-    (cond (reason && is_word w "fault") 1
-    (cond (reason && is_word w "loss") 2
-    (cond (reason && is_word w "verification") 3
-    (cond (reason && is_word w "removal") 4 absent)))))
+-- as a source
+unfoldable pub source_word : Word → Option ℕ
+source_word word.Billing = Some 1
+source_word word.Control = Some 2
+source_word _ = None
 
-unfoldable pub word_value : ℕ → ℕ → ℕ
-word_value key w = cond (eqb key source_key || eqb key reason_key) (event_word key w) (contract_word key w)
+-- and as a reason
+unfoldable pub reason_word : Word → Option ℕ
+reason_word word.Fault = Some 1
+reason_word word.Loss = Some 2
+reason_word word.Verification = Some 3
+reason_word word.Removal = Some 4
+reason_word _ = None
+
+-- the number that a word stands for as the value of an argument
+unfoldable pub word_value : Argument → Word → Option ℕ
+word_value key.Billing w = meter_word w
+word_value key.Control w = meter_word w
+word_value key.Basis w = basis_word w
+word_value key.Source w = source_word w
+word_value key.Reason w = reason_word w
+word_value _ w = None
 
 -- the error of an argument whose value is missing
-unfoldable pub expected_for : ℕ → ℕ
-expected_for key =
-    cond (eqb key billing_key || eqb key control_key) meter_error
-    (cond (eqb key basis_key) basis_error
-    (cond (eqb key source_key) source_error
-    (cond (eqb key reason_key) reason_error number_error)))
+unfoldable pub expected_for : Argument → Error
+expected_for key.Billing = error.Meter
+expected_for key.Control = error.Meter
+expected_for key.Basis = error.Basis
+expected_for key.Source = error.Source
+expected_for key.Reason = error.Reason
+expected_for _ = error.Number
 
 -- the largest number that an argument takes
-unfoldable pub largest_for : ℕ → ℕ
-largest_for key = cond (eqb key volume_key) 999999999999999999 4294967295
+unfoldable pub largest_for : Argument → ℕ
+largest_for key.Volume = 999999999999999999
+largest_for _ = 4294967295

@@ -1,155 +1,187 @@
 // What a token does where a call, an argument of it, or its end is expected.
 ghost use Rattle.std.specs.Prelude.{◌≡◌};
-ghost use Rattle.line_reader.specs.Modes.{begun, in_call, value_taken, in_value, in_dash, value_in, named_as, in_argument, in_form, in_last};
+ghost use Rattle.line_reader.specs.Modes.{behind_call, limit_for, begun, in_call, behind_value, value_taken, in_value, in_dash};
+ghost use Rattle.line_reader.specs.Modes.{value_in, named_as, in_argument, volume_call, in_form, in_last};
 
-use super::changes::{ask, fail, set_call, set_list, store_value, to_mode};
-use super::names::{call_of, expected, key_of, largest, word_value};
-use super::{
-    ABSENT, ARGUMENT, FORM, LAST, LIST, Line, MONTH_DASH, READ, VALUE, calls, errors, names, words,
-};
-use line_tokens::{DASH, END, NUMBER, Token, WORD};
-use numbers::{pick, pick_wide};
+use super::calls::Call;
+use super::errors::Error;
+use super::names::{Argument, call_of, expected, key_of, largest, word_value};
+use super::{Line, Mode, Numbers};
+use line_tokens::{Kind, Token, Word};
 
-// A call begins: what is expected behind its word, and the largest number of its list.
-#[tactic(auto, unfolding(crate::specs::Modes::begun))]
-fn begin(s: Line, call: u32) -> Line
-    ensures { result ≡ begun call s }
+// What is expected behind the word of a call: the year of an opening, the source of a neighbour reading, the reason of a
+// failure; hours or volume; the marks; nothing.
+#[tactic(auto, unfolding(crate::specs::Modes::behind_call))]
+fn behind_call(call: Call) -> Mode
+    ensures { result ≡ behind_call call }
 {
-    let key = pick(
-        call == calls::NEIGHBOUR,
-        names::SOURCE,
-        pick(call == calls::FAILURE, names::REASON, names::YEAR),
-    );
-    let mode = pick(
-        (calls::ADMISSION <= call) & (call <= calls::PERMISSION),
-        LAST,
-        VALUE,
-    );
-    let mode = pick(
-        (call == calls::BILLING_HOURS) | (call == calls::CONTROL_HOURS),
-        FORM,
-        mode,
-    );
-    let mode = pick(call == calls::CLOSE, LIST, mode);
-    let mut numbers = s.numbers;
-    let limit = pick_wide(call == calls::CLOSE, 255, 4294967295);
-    numbers.limit = limit;
-    set_list(set_call(ask(s, key), call), mode, numbers)
-}
-
-#[tactic(auto, unfolding(crate::specs::Modes::in_call))]
-pub(crate) fn in_call(s: Line, t: Token) -> Line
-    ensures { result ≡ in_call s t }
-{
-    if t.kind == END {
-        return to_mode(s, READ);
+    match call {
+        Call::Close => Mode::List,
+        Call::BillingHours | Call::ControlHours => Mode::Form,
+        Call::Admission | Call::Denial | Call::Permission => Mode::Last,
+        Call::Neighbour => Mode::Value(Argument::Source),
+        Call::Failure => Mode::Value(Argument::Reason),
+        _ => Mode::Value(Argument::Year),
     }
-    let call = pick(t.kind == WORD, call_of(t.value), calls::NONE);
-    if call == calls::NONE {
-        return fail(s, errors::CALL, t.from);
+}
+
+// The largest number of a call's list.
+#[tactic(auto, unfolding(crate::specs::Modes::limit_for))]
+fn limit_for(call: Call) -> u64
+    ensures { result ≡ limit_for call }
+{
+    match call {
+        Call::Close => 255,
+        _ => 4294967295,
     }
-    begin(s, call)
 }
 
-// The value of the argument is there: what is expected behind it.
-#[tactic(auto, unfolding(crate::specs::Modes::value_taken))]
-fn take(s: Line, value: u64) -> Line
-    ensures { result ≡ value_taken value s }
+// What is expected behind a value: the - of a year, the volume of a neighbour reading, the next argument of an opening, or
+// nothing.
+#[tactic(auto, unfolding(crate::specs::Modes::behind_value))]
+fn behind_value(key: Argument) -> Mode
+    ensures { result ≡ behind_value key }
 {
-    let key = s.key;
-    let mode = pick(key <= names::PHASES, ARGUMENT, LAST);
-    let mode = pick(key == names::SOURCE, VALUE, mode);
-    let mode = pick(key == names::YEAR, MONTH_DASH, mode);
-    let next = pick(key == names::SOURCE, names::VOLUME, key);
-    to_mode(ask(store_value(s, key, value), next), mode)
+    match key {
+        Argument::Year => Mode::Dash,
+        Argument::Source => Mode::Value(Argument::Volume),
+        Argument::Currents | Argument::Reason | Argument::Volume => Mode::Last,
+        _ => Mode::Argument,
+    }
 }
 
-#[tactic(auto, unfolding(crate::specs::Modes::in_value))]
-pub(crate) fn in_value(s: Line, t: Token) -> Line
-    ensures { result ≡ in_value s t }
+// The call of a meter's volume, from that of its hours.
+#[tactic(auto, unfolding(crate::specs::Modes::volume_call))]
+fn volume_call(call: Option<Call>) -> Call
+    ensures { result ≡ volume_call call }
 {
-    if t.kind == NUMBER {
-        if largest(s.key) < t.value {
-            return fail(s, errors::LARGE, t.from);
+    match call {
+        Some(Call::BillingHours) => Call::BillingVolume,
+        _ => Call::ControlVolume,
+    }
+}
+
+impl Line {
+    // A call begins.
+    #[tactic(auto, unfolding(crate::specs::Modes::begun))]
+    fn begin(self, call: Call) -> Line
+        ensures { result ≡ begun call self }
+    {
+        let numbers = Numbers {
+            limit: limit_for(call),
+            ..self.numbers
+        };
+        self.with_call(call)
+            .with_numbers(behind_call(call), numbers)
+    }
+
+    #[tactic(auto, unfolding(crate::specs::Modes::in_call, crate::specs::Modes::called))]
+    pub(crate) fn in_call(self, t: Token) -> Line
+        ensures { result ≡ in_call t.kind t.from self }
+    {
+        match t.kind {
+            Kind::End => self.with_mode(Mode::Read),
+            Kind::Word(Some(word)) => match call_of(word) {
+                Some(call) => self.begin(call),
+                None => self.fail(Error::Call, t.from),
+            },
+            _ => self.fail(Error::Call, t.from),
         }
-        return take(s, t.value);
     }
-    let value = pick_wide(t.kind == WORD, word_value(s.key, t.value), ABSENT);
-    if value == ABSENT {
-        return fail(s, expected(s.key), t.from);
-    }
-    take(s, value)
-}
 
-#[tactic(auto, unfolding(crate::specs::Modes::in_dash))]
-pub(crate) fn in_dash(s: Line, t: Token) -> Line
-    ensures { result ≡ in_dash s t }
-{
-    if t.kind == DASH {
-        return ask(s, names::MONTH);
+    // The value of an argument is there.
+    #[tactic(auto, unfolding(crate::specs::Modes::value_taken))]
+    fn take(self, key: Argument, value: u64) -> Line
+        ensures { result ≡ value_taken key value self }
+    {
+        self.with_value(key, value).with_mode(behind_value(key))
     }
-    fail(s, errors::DASH, t.from)
-}
 
-// The value of an argument as far as it is read, and ABSENT where there is no such argument.
-#[tactic(auto, unfolding(crate::specs::Modes::value_in))]
-pub fn value_of(s: Line, key: u32) -> u64
-    ensures { result ≡ value_in key s }
-{
-    let values = s.values;
-    let k = key as usize;
-    if k < 15 { values[k] } else { ABSENT }
-}
+    #[tactic(auto, unfolding(crate::specs::Modes::in_value, crate::specs::Modes::value_given))]
+    pub(crate) fn in_value(self, t: Token, key: Argument) -> Line
+        ensures { result ≡ in_value key t.kind t.from self }
+    {
+        match t.kind {
+            Kind::Number(value) => {
+                if largest(key) < value {
+                    return self.fail(Error::Large, t.from);
+                }
+                self.take(key, value)
+            }
+            Kind::Word(Some(word)) => match word_value(key, word) {
+                Some(value) => self.take(key, value),
+                None => self.fail(expected(key), t.from),
+            },
+            _ => self.fail(expected(key), t.from),
+        }
+    }
 
-// The word of an argument.
-#[tactic(auto, unfolding(crate::specs::Modes::named_as))]
-fn named(s: Line, t: Token, key: u32) -> Line
-    ensures { result ≡ named_as key s t }
-{
-    if key == names::NO_KEY {
-        return fail(s, errors::ARGUMENT, t.from);
+    #[tactic(auto, unfolding(crate::specs::Modes::in_dash))]
+    pub(crate) fn in_dash(self, t: Token) -> Line
+        ensures { result ≡ in_dash t.kind t.from self }
+    {
+        match t.kind {
+            Kind::Dash => self.with_mode(Mode::Value(Argument::Month)),
+            _ => self.fail(Error::Dash, t.from),
+        }
     }
-    if value_of(s, key) != ABSENT {
-        return fail(s, errors::TWICE, t.from);
-    }
-    if key == names::CURRENTS {
-        return to_mode(store_value(s, key, 0), LIST);
-    }
-    ask(s, key)
-}
 
-#[tactic(auto, unfolding(crate::specs::Modes::in_argument))]
-pub(crate) fn in_argument(s: Line, t: Token) -> Line
-    ensures { result ≡ in_argument s t }
-{
-    if t.kind == END {
-        return to_mode(s, READ);
+    // The value of an argument as far as it is read.
+    #[tactic(auto, unfolding(crate::specs::Modes::value_in))]
+    pub fn value_of(self, key: Argument) -> Option<u64>
+        ensures { result ≡ value_in key self }
+    {
+        self.values[key.index()]
     }
-    named(s, t, pick(t.kind == WORD, key_of(t.value), names::NO_KEY))
-}
 
-#[tactic(auto, unfolding(crate::specs::Modes::in_form))]
-pub(crate) fn in_form(s: Line, t: Token) -> Line
-    ensures { result ≡ in_form s t }
-{
-    let word = t.kind == WORD;
-    if word & (t.value == words::HOURS) {
-        return to_mode(s, LIST);
+    // The word of an argument, with its place.
+    #[tactic(auto, unfolding(crate::specs::Modes::named_as, crate::specs::Modes::asked_for))]
+    pub(crate) fn named(self, key: Option<Argument>, place: usize) -> Line
+        ensures { result ≡ named_as key place self }
+    {
+        let Some(key) = key else {
+            return self.fail(Error::Argument, place);
+        };
+        if self.value_of(key).is_some() {
+            return self.fail(Error::Twice, place);
+        }
+        match key {
+            Argument::Currents => self.with_value(key, 0).with_mode(Mode::List),
+            _ => self.with_mode(Mode::Value(key)),
+        }
     }
-    if word & (t.value == words::VOLUME) {
-        let billing = s.call == calls::BILLING_HOURS;
-        let call = pick(billing, calls::BILLING_VOLUME, calls::CONTROL_VOLUME);
-        return set_call(ask(s, names::VOLUME), call);
-    }
-    fail(s, errors::FORM, t.from)
-}
 
-#[tactic(auto, unfolding(crate::specs::Modes::in_last))]
-pub(crate) fn in_last(s: Line, t: Token) -> Line
-    ensures { result ≡ in_last s t }
-{
-    if t.kind == END {
-        return to_mode(s, READ);
+    #[tactic(auto, unfolding(crate::specs::Modes::in_argument))]
+    pub(crate) fn in_argument(self, t: Token) -> Line
+        ensures { result ≡ in_argument t.kind t.from self }
+    {
+        match t.kind {
+            Kind::End => self.with_mode(Mode::Read),
+            Kind::Word(word) => self.named(word.and_then(key_of), t.from),
+            _ => self.fail(Error::Argument, t.from),
+        }
     }
-    fail(s, errors::LAST, t.from)
+
+    #[tactic(auto, unfolding(crate::specs::Modes::in_form))]
+    pub(crate) fn in_form(self, t: Token) -> Line
+        ensures { result ≡ in_form t.kind t.from self }
+    {
+        match t.kind {
+            Kind::Word(Some(Word::Hours)) => self.with_mode(Mode::List),
+            Kind::Word(Some(Word::Volume)) => self
+                .with_call(volume_call(self.call))
+                .with_mode(Mode::Value(Argument::Volume)),
+            _ => self.fail(Error::Form, t.from),
+        }
+    }
+
+    #[tactic(auto, unfolding(crate::specs::Modes::in_last))]
+    pub(crate) fn in_last(self, t: Token) -> Line
+        ensures { result ≡ in_last t.kind t.from self }
+    {
+        match t.kind {
+            Kind::End => self.with_mode(Mode::Read),
+            _ => self.fail(Error::Last, t.from),
+        }
+    }
 }

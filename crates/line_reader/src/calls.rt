@@ -1,25 +1,30 @@
-// The calls by number (docs/HISTORY-FILE.md, 'Answers for programs'). A line that is no call has none. Behind `billing` and
-// `control` the call is that of the hours until `volume` is read.
-pub const NONE: u32 = 0;
+// The calls (docs/HISTORY-FILE.md, 'Calls').
+ghost use Rattle.std.specs.Prelude.{◌≡◌};
+ghost use Rattle.line_reader.specs.Codes.{call_number};
 
-pub const OPEN: u32 = 1;
+// A call, in the order of the numbers that the answers for programs have. Behind `billing` and `control` the call is that of
+// the hours until `volume` is read.
+#[derive(Clone, Copy, Debug, PartialEq, Eq)]
+pub enum Call {
+    Open = 1,
+    BillingHours,
+    BillingVolume,
+    ControlHours,
+    ControlVolume,
+    Neighbour,
+    Failure,
+    Admission,
+    Denial,
+    Permission,
+    Close,
+}
 
-pub const BILLING_HOURS: u32 = 2;
-
-pub const BILLING_VOLUME: u32 = 3;
-
-pub const CONTROL_HOURS: u32 = 4;
-
-pub const CONTROL_VOLUME: u32 = 5;
-
-pub const NEIGHBOUR: u32 = 6;
-
-pub const FAILURE: u32 = 7;
-
-pub const ADMISSION: u32 = 8;
-
-pub const DENIAL: u32 = 9;
-
-pub const PERMISSION: u32 = 10;
-
-pub const CLOSE: u32 = 11;
+impl Call {
+    // Its number in the answers for programs.
+    #[tactic(auto, unfolding(crate::specs::Codes::call_number))]
+    pub fn number(self) -> u32
+        ensures { result ≡ call_number self }
+    {
+        self as u32
+    }
+}

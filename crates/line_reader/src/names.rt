@@ -1,130 +1,169 @@
 // What the words of a history file stand for: calls, arguments and kinds.
-ghost use Rattle.std.specs.Prelude.{◌≡◌};
-ghost use Rattle.line_reader.specs.Names.{call_of, key_of, contract_word, event_word, word_value, expected_for, largest_for};
+ghost use Rattle.std.specs.Prelude.{◌≡◌, ◌<◌};
+ghost use Rattle.line_reader.specs.Codes.{index_of};
+ghost use Rattle.line_reader.specs.Names.{call_of, key_of, meter_word, basis_word, source_word, reason_word, word_value, expected_for, largest_for};
 
-use super::{ABSENT, calls, errors, words};
-use numbers::{pick, pick_wide};
+use super::calls::Call;
+use super::errors::Error;
+use line_tokens::Word;
 
-// The arguments of calls, by their places among the values; behind them none.
-pub const YEAR: u32 = 0;
+// The arguments of calls, in the order of their places among the values.
+#[derive(Clone, Copy, Debug, PartialEq, Eq)]
+pub enum Argument {
+    Year,
+    Month,
+    Billing,
+    Control,
+    Basis,
+    Power,
+    Place,
+    Amperes,
+    Volts,
+    Cosine,
+    Phases,
+    Currents,
+    Source,
+    Reason,
+    Volume,
+}
 
-pub const MONTH: u32 = 1;
-
-pub const BILLING: u32 = 2;
-
-pub const CONTROL: u32 = 3;
-
-pub const BASIS: u32 = 4;
-
-pub const POWER: u32 = 5;
-
-pub const PLACE: u32 = 6;
-
-pub const AMPERES: u32 = 7;
-
-pub const VOLTS: u32 = 8;
-
-pub const COSINE: u32 = 9;
-
-pub const PHASES: u32 = 10;
-
-pub const CURRENTS: u32 = 11;
-
-pub const SOURCE: u32 = 12;
-
-pub const REASON: u32 = 13;
-
-pub const VOLUME: u32 = 14;
-
-pub const NO_KEY: u32 = 15;
+impl Argument {
+    // Its place among the values.
+    #[tactic(auto, unfolding(crate::specs::Codes::index_of))]
+    pub(crate) fn index(self) -> usize
+        ensures place { result ≡ index_of self }
+        ensures below { result < 15 }
+    {
+        self as usize
+    }
+}
 
 // The call that a word starts; the call of a meter's hours stands for both of its readings.
 #[tactic(auto, unfolding(crate::specs::Names::call_of))]
-pub(crate) fn call_of(w: u64) -> u32
-    ensures { result ≡ call_of w }
+pub(crate) fn call_of(word: Word) -> Option<Call>
+    ensures { result ≡ call_of word }
 {
-    let n = pick(w == words::CLOSE, calls::CLOSE, calls::NONE);
-    let n = pick(w == words::PERMISSION, calls::PERMISSION, n);
-    let n = pick(w == words::DENIAL, calls::DENIAL, n);
-    let n = pick(w == words::ADMISSION, calls::ADMISSION, n);
-    let n = pick(w == words::FAILURE, calls::FAILURE, n);
-    let n = pick(w == words::NEIGHBOUR, calls::NEIGHBOUR, n);
-    let n = pick(w == words::CONTROL, calls::CONTROL_HOURS, n);
-    let n = pick(w == words::BILLING, calls::BILLING_HOURS, n);
-    pick(w == words::OPEN, calls::OPEN, n)
+    match word {
+        Word::Open => Some(Call::Open),
+        Word::Billing => Some(Call::BillingHours),
+        Word::Control => Some(Call::ControlHours),
+        Word::Neighbour => Some(Call::Neighbour),
+        Word::Failure => Some(Call::Failure),
+        Word::Admission => Some(Call::Admission),
+        Word::Denial => Some(Call::Denial),
+        Word::Permission => Some(Call::Permission),
+        Word::Close => Some(Call::Close),
+        _ => None,
+    }
 }
 
 // The argument that a word of an opening names.
 #[tactic(auto, unfolding(crate::specs::Names::key_of))]
-pub(crate) fn key_of(w: u64) -> u32
-    ensures { result ≡ key_of w }
+pub(crate) fn key_of(word: Word) -> Option<Argument>
+    ensures { result ≡ key_of word }
 {
-    let n = pick(w == words::CURRENTS, CURRENTS, NO_KEY);
-    let n = pick(w == words::PHASES, PHASES, n);
-    let n = pick(w == words::COSINE, COSINE, n);
-    let n = pick(w == words::VOLTS, VOLTS, n);
-    let n = pick(w == words::AMPERES, AMPERES, n);
-    let n = pick(w == words::PLACE, PLACE, n);
-    let n = pick(w == words::POWER, POWER, n);
-    let n = pick(w == words::BASIS, BASIS, n);
-    let n = pick(w == words::CONTROL, CONTROL, n);
-    pick(w == words::BILLING, BILLING, n)
+    match word {
+        Word::Billing => Some(Argument::Billing),
+        Word::Control => Some(Argument::Control),
+        Word::Basis => Some(Argument::Basis),
+        Word::Power => Some(Argument::Power),
+        Word::Place => Some(Argument::Place),
+        Word::Amperes => Some(Argument::Amperes),
+        Word::Volts => Some(Argument::Volts),
+        Word::Cosine => Some(Argument::Cosine),
+        Word::Phases => Some(Argument::Phases),
+        Word::Currents => Some(Argument::Currents),
+        _ => None,
+    }
 }
 
-// The kind of a meter or a basis that a word stands for.
-#[tactic(auto, unfolding(crate::specs::Names::contract_word))]
-fn contract_word(key: u32, w: u64) -> u64
-    ensures { result ≡ contract_word key w }
+// The kind of a meter that a word stands for.
+#[tactic(auto, unfolding(crate::specs::Names::meter_word))]
+fn meter_word(word: Word) -> Option<u64>
+    ensures { result ≡ meter_word word }
 {
-    let meter = (key == BILLING) | (key == CONTROL);
-    let basis = key == BASIS;
-    let n = pick_wide(basis & (w == words::CABLE), 3, ABSENT);
-    let n = pick_wide(basis & (w == words::SHARED), 2, n);
-    let n = pick_wide(basis & (w == words::AGREED), 1, n);
-    let n = pick_wide(meter & (w == words::INTEGRAL), 2, n);
-    let n = pick_wide(meter & (w == words::INTERVAL), 1, n);
-    pick_wide(meter & (w == words::NONE), 0, n)
+    match word {
+        Word::None => Some(0),
+        Word::Interval => Some(1),
+        Word::Integral => Some(2),
+        _ => None,
+    }
 }
 
-// The source of a neighbour reading or the reason of a failure.
-#[tactic(auto, unfolding(crate::specs::Names::event_word))]
-fn event_word(key: u32, w: u64) -> u64
-    ensures { result ≡ event_word key w }
+// The basis.
+#[tactic(auto, unfolding(crate::specs::Names::basis_word))]
+fn basis_word(word: Word) -> Option<u64>
+    ensures { result ≡ basis_word word }
 {
-    let source = key == SOURCE;
-    let reason = key == REASON;
-    let n = pick_wide(reason & (w == words::REMOVAL), 4, ABSENT);
-    let n = pick_wide(reason & (w == words::VERIFICATION), 3, n);
-    let n = pick_wide(reason & (w == words::LOSS), 2, n);
-    let n = pick_wide(reason & (w == words::FAULT), 1, n);
-    let n = pick_wide(source & (w == words::CONTROL), 2, n);
-    pick_wide(source & (w == words::BILLING), 1, n)
+    match word {
+        Word::Agreed => Some(1),
+        Word::Shared => Some(2),
+        Word::Cable => Some(3),
+        _ => None,
+    }
+}
+
+// The source of a neighbour reading.
+#[tactic(auto, unfolding(crate::specs::Names::source_word))]
+fn source_word(word: Word) -> Option<u64>
+    ensures { result ≡ source_word word }
+{
+    match word {
+        Word::Billing => Some(1),
+        Word::Control => Some(2),
+        _ => None,
+    }
+}
+
+// The reason of a failure.
+#[tactic(auto, unfolding(crate::specs::Names::reason_word))]
+fn reason_word(word: Word) -> Option<u64>
+    ensures { result ≡ reason_word word }
+{
+    match word {
+        Word::Fault => Some(1),
+        Word::Loss => Some(2),
+        Word::Verification => Some(3),
+        Word::Removal => Some(4),
+        _ => None,
+    }
 }
 
 // The number that a word stands for as the value of an argument.
 #[tactic(auto, unfolding(crate::specs::Names::word_value))]
-pub(crate) fn word_value(key: u32, w: u64) -> u64
-    ensures { result ≡ word_value key w }
+pub(crate) fn word_value(key: Argument, word: Word) -> Option<u64>
+    ensures { result ≡ word_value key word }
 {
-    let events = (key == SOURCE) | (key == REASON);
-    pick_wide(events, event_word(key, w), contract_word(key, w))
+    match key {
+        Argument::Billing | Argument::Control => meter_word(word),
+        Argument::Basis => basis_word(word),
+        Argument::Source => source_word(word),
+        Argument::Reason => reason_word(word),
+        _ => None,
+    }
 }
 
 // The error of an argument whose value is missing.
 #[tactic(auto, unfolding(crate::specs::Names::expected_for))]
-pub(crate) fn expected(key: u32) -> u32
+pub(crate) fn expected(key: Argument) -> Error
     ensures { result ≡ expected_for key }
 {
-    let n = pick(key == REASON, errors::REASON, errors::NUMBER);
-    let n = pick(key == SOURCE, errors::SOURCE, n);
-    let n = pick(key == BASIS, errors::BASIS, n);
-    pick((key == BILLING) | (key == CONTROL), errors::METER, n)
+    match key {
+        Argument::Billing | Argument::Control => Error::Meter,
+        Argument::Basis => Error::Basis,
+        Argument::Source => Error::Source,
+        Argument::Reason => Error::Reason,
+        _ => Error::Number,
+    }
 }
 
 // The largest number that an argument takes.
 #[tactic(auto, unfolding(crate::specs::Names::largest_for))]
-pub(crate) fn largest(key: u32) -> u64
+pub(crate) fn largest(key: Argument) -> u64
     ensures { result ≡ largest_for key }
 {
-    pick_wide(key == VOLUME, 999999999999999999, 4294967295)
+    match key {
+        Argument::Volume => 999999999999999999,
+        _ => 4294967295,
+    }
 }

@@ -1,71 +1,102 @@
 // The tokens of a line of a history file (docs/HISTORY-FILE.md, 'Words of a line').
 #![tactic(auto)]
 
-ghost use Rattle.std.specs.Prelude.{◌≡◌, ◌-◌, ltb};
-ghost use Rattle.line_tokens.specs.Tokens.{class_of, span_from, byte_at, place_behind, Counting, grown_by, value_of, number_token, word_token, token_at};
+ghost use Rattle.std.specs.Prelude.{◌≡◌, ◌≤◌, ◌-◌, length};
+ghost use Rattle.std.specs.List.{prefix_len};
+ghost use Rattle.line_tokens.specs.Tokens.{class_of, is_of, run_from, span_from, byte_at, place_behind, value_of, single_kind, number_token, word_token, token_at};
 
-use numbers::{least, pick, pick_wide};
+pub mod words;
 
-// The kinds of bytes and of tokens. A mark, the end and a byte alone have the same number as both.
-pub const BLANK: u32 = 0;
+pub use words::Word;
+use words::word_of;
 
-pub const NUMBER: u32 = 1;
+// What a byte is: a space, a tab or a carriage return; a digit; a letter; #; one of the three marks; any other byte from 33 to
+// 126; a byte that is no text.
+#[derive(Clone, Copy, Debug, PartialEq, Eq)]
+pub enum Class {
+    Blank,
+    Digit,
+    Letter,
+    End,
+    Left,
+    Right,
+    Dash,
+    Other,
+    Foreign,
+}
 
-pub const WORD: u32 = 2;
+// What a token is: a number, a count, or one of too many digits; a word, if it is one that is known; the end of the line; or a byte alone.
+#[derive(Clone, Copy, Debug, PartialEq, Eq)]
+pub enum Kind {
+    Number(u64),
+    Count(u64),
+    Long,
+    Word(Option<Word>),
+    End,
+    Left,
+    Right,
+    Dash,
+    Other,
+    Foreign,
+}
 
-pub const END: u32 = 3;
-
-pub const LEFT: u32 = 4;
-
-pub const RIGHT: u32 = 5;
-
-pub const DASH: u32 = 6;
-
-pub const OTHER: u32 = 7;
-
-pub const FOREIGN: u32 = 8;
-
-pub const COUNT: u32 = 9;
-
-pub const LONG: u32 = 10;
-
-// What stands at a place of a line: its kind, the value of a number, count or word, its first byte and the one behind it.
-#[derive(Clone, Copy)]
+// What stands at a place of a line, its first byte and the one behind it.
+#[derive(Clone, Copy, Debug, PartialEq, Eq)]
 pub struct Token {
-    pub kind: u32,
-    pub value: u64,
+    pub kind: Kind,
     pub from: usize,
     pub to: usize,
 }
 
-// The kind of a byte.
+// The class of a byte.
 #[tactic(auto, unfolding(crate::specs::Tokens::class_of))]
-pub fn class_of(b: u8) -> u32
+pub fn class_of(b: u8) -> Class
     ensures { result ≡ class_of b }
 {
-    let c = pick((33 <= b) & (b <= 126), OTHER, FOREIGN);
-    let c = pick(b == 45, DASH, c);
-    let c = pick(b == 41, RIGHT, c);
-    let c = pick(b == 40, LEFT, c);
-    let c = pick(b == 35, END, c);
-    let letter = ((97 <= b) & (b <= 122)) | ((65 <= b) & (b <= 90));
-    let c = pick(letter, WORD, c);
-    let c = pick((48 <= b) & (b <= 57), NUMBER, c);
-    pick((b == 32) | (b == 9) | (b == 13), BLANK, c)
+    match b {
+        b' ' | b'\t' | b'\r' => Class::Blank,
+        b'0'..=b'9' => Class::Digit,
+        b'a'..=b'z' | b'A'..=b'Z' => Class::Letter,
+        b'#' => Class::End,
+        b'(' => Class::Left,
+        b')' => Class::Right,
+        b'-' => Class::Dash,
+        b'!'..=b'~' => Class::Other,
+        _ => Class::Foreign,
+    }
 }
 
-// The first place from `from` on whose byte is not of a kind, or the end of the line.
-pub fn span(line: &[u8], from: usize, class: u32) -> usize
+// Whether a byte is of a class.
+#[tactic(auto, unfolding(crate::specs::Tokens::is_of))]
+fn is_of(b: u8, class: Class) -> bool
+    ensures { result ≡ is_of class b }
+{
+    class_of(b) == class
+}
+
+// How many bytes of a class stand at the start.
+fn leading(bytes: &[u8], class: Class) -> usize
+    ensures { result ≡ prefix_len (is_of class) bytes.now }
+{
+    bytes.iter().take_while(|b| is_of(**b, class)).count()
+}
+
+// The bytes of a class that stand one behind the other from a place on.
+#[tactic(auto, unfolding(crate::specs::Tokens::run_from))]
+fn run(line: &[u8], from: usize, class: Class) -> &[u8]
+    ensures bytes { result.now ≡ run_from class line.now from }
+    ensures within { length result.now ≤ length line.now - from }
+{
+    let rest = line.get(from..).unwrap_or(&[]);
+    &rest[..leading(rest, class)]
+}
+
+// The first place from `from` on whose byte is not of a class, or the end of the line.
+#[tactic(auto, unfolding(crate::specs::Tokens::span_from))]
+pub fn span(line: &[u8], from: usize, class: Class) -> usize
     ensures { result ≡ span_from class line.now from }
 {
-    let mut i = from;
-    while i < line.len() {
-        if class_of(line[i]) != class {
-            return i;
-        }
-        i += 1;
-    }
-    i
+    from + run(line, from, class).len()
 }
 
 // A byte of the line; past its end the byte that ends it.
@@ -73,7 +104,7 @@ pub fn span(line: &[u8], from: usize, class: u32) -> usize
 fn byte_at(line: &[u8], i: usize) -> u8
     ensures { result ≡ byte_at line.now i }
 {
-    if i < line.len() { line[i] } else { 35 }
+    line.get(i).copied().unwrap_or(b'#')
 }
 
 // The place behind a byte of the line; at its end the end.
@@ -84,41 +115,15 @@ fn behind(line: &[u8], i: usize) -> usize
     if i < line.len() { i + 1 } else { i }
 }
 
-// Whether more than so many bytes stand between two places.
-fn size_above(from: usize, to: usize, most: usize) -> bool
-    ensures { result ≡ ltb most (to - from) }
+// The value of digits. It stops growing where no number of 18 digits comes, so that it fits.
+#[tactic(auto, unfolding(crate::specs::Tokens::value_of))]
+fn value_of(digits: &[u8]) -> u64
+    ensures { result ≡ value_of digits.now }
 {
-    if from <= to { most < to - from } else { false }
-}
-
-fn wide_byte(b: u8) -> u64
-    ensures { result ≡ b }
-{
-    b as u64
-}
-
-// What the value is after one more digit or letter, whose low bits are its own value. The value stops growing where no
-// number of 18 digits and no word of 12 letters comes, so that it fits.
-#[tactic(auto, unfolding(crate::specs::Tokens::grown_by))]
-fn grown(v: u64, b: u8, base: u64, low: u64) -> u64
-    requires { Counting base low }
-    ensures { result ≡ grown_by base low v b }
-{
-    least(v, 500000000000000000) * base + wide_byte(b) % low
-}
-
-// The value of the bytes from one place to another.
-fn value(line: &[u8], from: usize, to: usize, base: u64, low: u64) -> u64
-    requires { Counting base low }
-    ensures { result ≡ value_of base low line.now from (to - from) }
-{
-    let mut v = 0;
-    let mut i = from;
-    while i < to {
-        v = grown(v, byte_at(line, i), base, low);
-        i += 1;
-    }
-    v
+    digits.iter().fold(
+        0u64,
+        |v, b| v.min(500000000000000000) * 10 + u64::from(*b % 16),
+    )
 }
 
 // A number or a count, whose first digit stands at `from`.
@@ -126,18 +131,18 @@ fn value(line: &[u8], from: usize, to: usize, base: u64, low: u64) -> u64
 fn number_token(line: &[u8], from: usize) -> Token
     ensures { result ≡ number_token line.now from }
 {
-    let to = span(line, from, NUMBER);
-    let star = byte_at(line, to) == 42;
-    let long = size_above(from, to, 18);
-    let v = value(line, from, to, 10, 16);
-    let kind = pick(long, LONG, pick(star, COUNT, NUMBER));
-    let next = pick_wide(star, behind(line, to) as u64, to as u64) as usize;
-    Token {
-        kind: kind,
-        value: v,
-        from: from,
-        to: next,
-    }
+    let digits = run(line, from, Class::Digit);
+    let to = from + digits.len();
+    let star = byte_at(line, to) == b'*';
+    let kind = if 18 < digits.len() {
+        Kind::Long
+    } else if star {
+        Kind::Count(value_of(digits))
+    } else {
+        Kind::Number(value_of(digits))
+    };
+    let to = if star { behind(line, to) } else { to };
+    Token { kind, from, to }
 }
 
 // A word, whose first letter stands at `from`.
@@ -145,34 +150,43 @@ fn number_token(line: &[u8], from: usize) -> Token
 fn word_token(line: &[u8], from: usize) -> Token
     ensures { result ≡ word_token line.now from }
 {
-    let to = span(line, from, WORD);
-    let long = size_above(from, to, 12);
-    let v = pick_wide(long, 0, value(line, from, to, 32, 32));
-    Token {
-        kind: WORD,
-        value: v,
-        from: from,
-        to: to,
+    let letters = run(line, from, Class::Letter);
+    let kind = Kind::Word(word_of(letters));
+    let to = from + letters.len();
+    Token { kind, from, to }
+}
+
+// What a byte is that is a token alone.
+#[tactic(auto, unfolding(crate::specs::Tokens::single_kind))]
+fn single_kind(class: Class) -> Kind
+    ensures { result ≡ single_kind class }
+{
+    match class {
+        Class::End => Kind::End,
+        Class::Left => Kind::Left,
+        Class::Right => Kind::Right,
+        Class::Dash => Kind::Dash,
+        Class::Foreign => Kind::Foreign,
+        _ => Kind::Other,
     }
 }
 
 // The token at a place of the line, behind blanks.
-#[tactic(auto, unfolding(crate::specs::Tokens::token_from, crate::specs::Tokens::token_at))]
+#[tactic(auto, unfolding(crate::specs::Tokens::token_by, crate::specs::Tokens::token_from, crate::specs::Tokens::token_at))]
 pub fn token_at(line: &[u8], at: usize) -> Token
     ensures { result ≡ token_at line.now at }
 {
-    let from = span(line, at, BLANK);
-    let kind = class_of(byte_at(line, from));
-    if kind == NUMBER {
-        return number_token(line, from);
-    }
-    if kind == WORD {
-        return word_token(line, from);
-    }
-    Token {
-        kind: kind,
-        value: 0,
-        from: from,
-        to: behind(line, from),
+    let from = span(line, at, Class::Blank);
+    match class_of(byte_at(line, from)) {
+        Class::Digit => number_token(line, from),
+        Class::Letter => word_token(line, from),
+        class => {
+            let to = behind(line, from);
+            Token {
+                kind: single_kind(class),
+                from,
+                to,
+            }
+        }
     }
 }

@@ -7,7 +7,9 @@ use native.Mathlib.Nat.{mul-le-mul_left, pos_of_ne-zero}
 use native.Mathlib.Omega.{arith}
 use borrow.Author.Tests.{ltb-true, ltb-false, lt-ltb, eqb-false}
 use lib.Dec.{eqb, ltb}
-use lib.ListN.{length, get_or-eq_default}
+use lib.ListN.{length, take, drop, length-drop, get_or-eq_default}
+use lib.Seq.{get_or-take, get_or-drop, length-take-le}
+use Rattle.marks.specs.declared.days.Day.{Day}
 use Rattle.numbers.specs.Lists.{sum_to, any_to, count_to, at}
 use Rattle.numbers.specs.Rounding.{half_up}
 use Rattle.numbers.proofs.Laws.{by_cases, neither, sum_stop, sum_parts, sum_same, sum_most, sum_weighted, count_any, count_some, count_holds}
@@ -96,3 +98,36 @@ month_capacity_most marks hours k x e l f small =
     capacity_most _ _ x
     (rw (capacity_sum_hours marks hours (omega arith), days_capacities marks k f, e)
     (sum_weighted (capacity_at marks) (at hours) x (24 * k) small))
+
+-- the counts of the part of the marks that is day k
+pub day_part : (marks : List ℕ) (k n : ℕ) {day : Day} → n ≡ 24 → 24 * k + 24 ≤ length marks
+    → day ≡ record {
+      peaks = count_to (peak_at (take n (drop (24 * k) marks))) (length (take n (drop (24 * k) marks)));
+      capacities = count_to (capacity_at (take n (drop (24 * k) marks))) (length (take n (drop (24 * k) marks)));
+    }
+    → day ≡ day_of marks k
+day_part marks k n e l f = rw long at f ∙ made
+  where
+    long : length (take n (drop (24 * k) marks)) ≡ 24
+    long = length-take-le n (drop (24 * k) marks) (simp length-drop (omega arith)) ∙ e
+
+    same : (h : ℕ) → h < 24 → at (take n (drop (24 * k) marks)) h ≡ at marks (24 * k + h)
+    same h m = get_or-take n (drop (24 * k) marks) h 0 (omega arith) ∙ get_or-drop (24 * k) marks h 0
+
+    peaks : count_to (peak_at (take n (drop (24 * k) marks))) 24 ≡ count_to (λ h. peak_at marks (24 * k + h)) 24
+    peaks =
+        sum_same 24 (λ h. cond (peak_at (take n (drop (24 * k) marks)) h) 1 0) (λ h. cond (peak_at marks (24 * k + h)) 1 0)
+        (λ h m. rw (same h m))
+
+    capacities : count_to (capacity_at (take n (drop (24 * k) marks))) 24 ≡ count_to (λ h. capacity_at marks (24 * k + h)) 24
+    capacities =
+        sum_same 24 (λ h. cond (capacity_at (take n (drop (24 * k) marks)) h) 1 0) (λ h. cond (capacity_at marks (24 * k + h)) 1 0)
+        (λ h m. rw (same h m))
+
+    made :
+        (record {
+          peaks = count_to (peak_at (take n (drop (24 * k) marks))) 24;
+          capacities = count_to (capacity_at (take n (drop (24 * k) marks))) 24;
+        })
+        ≡ day_of marks k
+    made = λ i. record { peaks = peaks i; capacities = capacities i }

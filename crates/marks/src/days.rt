@@ -1,16 +1,16 @@
 // What a month's marks say, hour by hour and day by day.
 ghost use Rattle.std.specs.Prelude.{◌≡◌, ◌+◌, ◌*◌, ◌≤◌, length};
-ghost use Rattle.numbers.specs.Lists.{none_above};
-ghost use Rattle.marks.specs.Marks.{is_peak, is_capacity, day_of, is_working, is_crowded, is_unmatched, survey_with};
+ghost use Rattle.numbers.specs.Lists.{none_above, count_to};
+ghost use Rattle.marks.specs.Marks.{is_peak, is_capacity, peak_at, capacity_at, is_working, is_crowded, is_unmatched, survey_with};
 
 use super::Survey;
-use numbers::bit;
+use numbers::none_above;
 
-// The peak hours and the capacity hours of a day.
-#[derive(Clone, Copy)]
+/// The peak hours and the capacity hours of a day.
+#[derive(Clone, Copy, Debug, PartialEq, Eq)]
 pub struct Day {
-    pub peaks: u64,
-    pub capacities: u64,
+    pub peaks: u32,
+    pub capacities: u32,
 }
 
 // Whether a mark is a planned peak.
@@ -28,55 +28,65 @@ pub fn is_capacity(mark: u8) -> bool
 }
 
 // Whether no mark is above 3.
-#[tactic(auto, unfolding(numbers::specs::Lists::none_above))]
 pub fn none_high(marks: &[u8]) -> bool
     ensures { result ≡ none_above 3 marks.now }
 {
-    let mut ok = true;
-    let mut h = 0;
-    while h < marks.len() {
-        ok = ok & (marks[h] <= 3);
-        h += 1;
+    none_above(marks, 3)
+}
+
+// How many of up to 744 marks are planned peaks, counted in 32 bits, so that more marks are taken at a time.
+pub(crate) fn count_peaks(marks: &[u8]) -> u32
+    requires { length marks.now ≤ 744 }
+    ensures is { result ≡ count_to (peak_at marks.now) (length marks.now) }
+    ensures most { result ≤ length marks.now }
+{
+    marks.iter().map(|mark| u32::from(is_peak(*mark))).sum()
+}
+
+// How many are capacity hours.
+fn count_capacities(marks: &[u8]) -> u32
+    requires { length marks.now ≤ 744 }
+    ensures { result ≡ count_to (capacity_at marks.now) (length marks.now) }
+{
+    marks.iter().map(|mark| u32::from(is_capacity(*mark))).sum()
+}
+
+impl Day {
+    // The counts of a day that has these marks.
+    fn of(marks: &[u8]) -> Self
+        requires { length marks.now ≤ 744 }
+        ensures is { result ≡ record {
+          peaks = count_to (peak_at marks.now) (length marks.now);
+          capacities = count_to (capacity_at marks.now) (length marks.now);
+        } }
+        ensures most { result.peaks ≤ length marks.now }
+    {
+        Day {
+            peaks: count_peaks(marks),
+            capacities: count_capacities(marks),
+        }
     }
-    ok
-}
 
-// The counts of day k.
-fn count_day(marks: &[u8], k: usize) -> Day
-    requires { 24 * k + 24 ≤ length marks.now }
-    ensures { (result ≡ day_of marks.now k) × (result.peaks ≤ 24) }
-{
-    let mut peaks: u64 = 0;
-    let mut capacities: u64 = 0;
-    let mut h = 0;
-    while h < 24 {
-        let mark = marks[24 * k + h];
-        peaks += bit(is_peak(mark));
-        capacities += bit(is_capacity(mark));
-        h += 1;
+    // Whether number 42 applies.
+    fn is_crowded(self) -> bool
+        ensures { result ≡ is_crowded self }
+    {
+        16 < self.peaks
     }
-    Day { peaks, capacities }
-}
 
-// Whether number 42 applies to a day.
-fn is_crowded(day: Day) -> bool
-    ensures { result ≡ is_crowded day }
-{
-    16 < day.peaks
-}
+    // Whether number 43 applies.
+    fn is_unmatched(self) -> bool
+        ensures { result ≡ is_unmatched self }
+    {
+        (1 < self.capacities) | ((0 < self.peaks) & (self.capacities == 0))
+    }
 
-// Whether number 43 applies to a day.
-fn is_unmatched(day: Day) -> bool
-    ensures { result ≡ is_unmatched day }
-{
-    (1 < day.capacities) | ((0 < day.peaks) & (day.capacities == 0))
-}
-
-// Whether a day is a working day.
-fn is_working(day: Day) -> bool
-    ensures { result ≡ is_working day }
-{
-    0 < day.capacities
+    // Whether it is a working day.
+    fn is_working(self) -> bool
+        ensures { result ≡ is_working self }
+    {
+        0 < self.capacities
+    }
 }
 
 // Day by day, whether 42 and 43 apply, n and d.
@@ -84,25 +94,19 @@ fn is_working(day: Day) -> bool
 pub fn survey_days(marks: &[u8], high: bool) -> Survey
     ensures { result ≡ survey_with marks.now high }
 {
-    let all = marks.len() / 24;
-    let mut crowded = false;
-    let mut unmatched = false;
-    let mut peaks: u64 = 0;
-    let mut days: u64 = 0;
-    let mut k = 0;
-    while k < all {
-        let day = count_day(marks, k);
-        crowded = crowded | is_crowded(day);
-        unmatched = unmatched | is_unmatched(day);
-        peaks += day.peaks;
-        days += bit(is_working(day));
-        k += 1;
-    }
-    Survey {
+    let mut survey = Survey {
         high,
-        crowded,
-        unmatched,
-        peaks,
-        days,
+        crowded: false,
+        unmatched: false,
+        peaks: 0,
+        days: 0,
+    };
+    for k in 0..marks.len() / 24 {
+        let day = Day::of(&marks[24 * k..24 * k + 24]);
+        survey.crowded |= day.is_crowded();
+        survey.unmatched |= day.is_unmatched();
+        survey.peaks += u64::from(day.peaks);
+        survey.days += u64::from(day.is_working());
     }
+    survey
 }

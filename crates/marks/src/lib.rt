@@ -9,11 +9,11 @@ mod days;
 pub mod peak;
 
 use days::{is_capacity, none_high, survey_days};
-use numbers::{half_up, least, word_at};
+use numbers::{half_up, word_at};
 use units::{Kw, Kwh};
 
 // What the marks of a month say: whether 41, 42 and 43 apply, n and d.
-#[derive(Clone, Copy)]
+#[derive(Clone, Copy, Debug, PartialEq, Eq)]
 pub struct Survey {
     pub high: bool,
     pub crowded: bool,
@@ -34,12 +34,11 @@ pub fn survey_marks(marks: &[u8]) -> Survey
 fn capacity_at(marks: &[u8], hours: &[u32], h: usize) -> u64
     ensures { (result ≡ cond (capacity_at marks.now h) (at hours.now h) 0) × (result ≤ 4294967295) }
 {
-    if h < marks.len() {
-        if is_capacity(marks[h]) {
-            return word_at(hours, h);
-        }
+    if h < marks.len() && is_capacity(marks[h]) {
+        word_at(hours, h)
+    } else {
+        0
     }
-    0
 }
 
 // C: the sum of the volumes in the capacity hours.
@@ -47,10 +46,8 @@ pub fn capacity_sum(marks: &[u8], hours: &[u32]) -> Kwh
     ensures { result.0 ≡ capacity_sum marks.now hours.now }
 {
     let mut sum: u64 = 0;
-    let mut h = 0;
-    while h < 744 {
+    for h in 0..744 {
         sum += capacity_at(marks, hours, h);
-        h += 1;
     }
     Kwh(sum)
 }
@@ -60,6 +57,5 @@ pub fn capacity_sum(marks: &[u8], hours: &[u32]) -> Kwh
 pub fn capacity(sum: Kwh, days: u64) -> Kw
     ensures { result.0 ≡ capacity_in sum.0 days }
 {
-    let cut = least(half_up(sum.0, days), 4294967295);
-    Kw(cut as u32)
+    Kw(half_up(sum.0, days).min(4294967295) as u32)
 }

@@ -21,9 +21,10 @@ use Rattle.validity.specs.Valid.{volume_limit, valid}
 use Rattle.store.specs.Store.{put_row, store_fits}
 use Rattle.rules.specs.Calls.{Opening, Call, billing_hours, control_hours, billing_volume, control_volume, neighbour, failure, admission}
 use Rattle.rules.specs.Calls.{denial, permission, closing}
-use Rattle.rules.specs.Rules.{no_past_hours, past_hours, becomes_past}
+use Rattle.rules.specs.Rules.{becomes_past}
 use Rattle.model.specs.Refusals.{refuse, refuse_anyone, own_refusal, open_refusal}
 use Rattle.model.specs.Model.{State, state, fault_within_year, after_failure, past_in, closed_with, accept}
+use Rattle.std.specs.Prelude.{None, Some}
 
 unfoldable pub refusal_definitions : Unit {0}
 unfolding refuse own_refusal open_refusal valid volume_limit none_above store_fits is_month month_days month_hours open_hours leap_year month_number
@@ -232,10 +233,10 @@ abbrev filled : Date → List ℕ → ℕ → State
 filled d years latest = state (with_past (with_date (point 1 2) d) (record { years = years; latest = latest })) (replicate 744 1 ++ replicate 744 2)
 
 pasts :
-    (past_in (filled (on 2014 1) (zeros 12) 0) ≡ no_past_hours) × (past_in (filled (on 2025 2) (set (zeros 12) 1 2023) 0) ≡ no_past_hours)
-    × (past_in (filled (on 2025 2) (set (zeros 12) 1 2023) 24278) ≡ past_hours (replicate 672 2))
-    × (past_in (filled (on 2025 2) (set (set (zeros 12) 1 2024) 0 2025) 24301) ≡ past_hours (replicate 696 2))
-    × (past_in (filled (on 2025 2) (set (zeros 12) 0 2025) 24301) ≡ past_hours (replicate 744 1))
+    (past_in (filled (on 2014 1) (zeros 12) 0) ≡ None) × (past_in (filled (on 2025 2) (set (zeros 12) 1 2023) 0) ≡ None)
+    × (past_in (filled (on 2025 2) (set (zeros 12) 1 2023) 24278) ≡ Some (replicate 672 2))
+    × (past_in (filled (on 2025 2) (set (set (zeros 12) 1 2024) 0 2025) 24301) ≡ Some (replicate 696 2))
+    × (past_in (filled (on 2025 2) (set (zeros 12) 0 2025) 24301) ≡ Some (replicate 744 1))
 unfolding refusal_definitions
 pasts = (refl, refl, refl, refl, refl)
 

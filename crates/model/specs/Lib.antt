@@ -1,4 +1,5 @@
 pub mod Refusals
+pub mod Refused
 pub mod Model
 pub mod Opening
 pub mod Sound

@@ -15,10 +15,11 @@ use Rattle.store.specs.Store.{as_row, with_hours, without_hours}
 use Rattle.rules.specs.declared.Figures.{Figures}
 use Rattle.rules.specs.Calls.{Call, billing_hours, control_hours, billing_volume, control_volume, neighbour, failure, admission, denial, permission}
 use Rattle.rules.specs.Calls.{closing, buffer_of, is_fault}
-use Rattle.rules.specs.Rules.{Measured, missing, hourly, whole, Stated, unstated, stated, PastHours, no_past_hours, past_hours, Inputs, Outcome}
+use Rattle.rules.specs.Rules.{Measured, missing, hourly, whole, Stated, PastHours, Inputs, Outcome}
 use Rattle.rules.specs.Rules.{counted_of, neighbour_of, rules, becomes_past, figures, no_figures}
 use Rattle.model.specs.declared.Answer.{Answer}
 use Rattle.model.specs.Refusals.{refuse_anyone, own_refusal}
+use Rattle.std.specs.Prelude.{None, Some}
 
 -- what a point keeps: its record and its store
 pub record State : Type 0 where
@@ -64,7 +65,7 @@ measured_in kind g hs = cond (is_set g.given) (cond (eqb kind 1) (hourly hs) (wh
 
 -- a neighbour reading that the record holds
 unfoldable pub stated_in : Reading → Stated
-stated_in g = cond (is_set g.given) (stated g.volume.0) unstated
+stated_in g = cond (is_set g.given) (Some g.volume.0) None
 
 -- the row of a calendar month
 abbrev pub row_of : Date → ℕ
@@ -81,8 +82,8 @@ last_year d = record { year = d.year - 1; month = d.month }
 unfoldable pub past_in : State → PastHours
 past_in s =
     cond (eqb (at s.point.past.years (row_of s.point.date)) (s.point.date.year - 1))
-    (past_hours (row_hours s (last_year s.point.date)))
-    (cond (eqb s.point.past.latest 0) no_past_hours (past_hours (row_hours s (date_of s.point.past.latest))))
+    (Some (row_hours s (last_year s.point.date)))
+    (cond (eqb s.point.past.latest 0) None (Some (row_hours s (date_of s.point.past.latest))))
 
 -- what counts at a closing, from the record and the store: only the state at closing counts for the whole month (H)
 unfoldable pub inputs : State → List ℕ → Inputs

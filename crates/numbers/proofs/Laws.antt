@@ -3,8 +3,8 @@ use mathlib.Core.Path.{◌≡◌, refl, sym, ap₂, ◌∙◌}
 use mathlib.Core.Logic.{◌⊎◌, inl, inr, ⊎_elim}
 use mathlib.Core.List.{List, [], ◌∷◌, ◌++◌, append_assoc, append-nil}
 use mathlib.Core.Bool.{Bool, true, false, cond, ◌&&◌, ◌||◌, false≢true}
-use Prim.Native.Nat.{ℕ, zero, suc, ◌+◌, ◌-◌, ◌*◌, ◌≤◌, ◌<◌}
-use native.Mathlib.Nat.{not-suc-le-zero, le_of_suc-le-suc, eq-or-lt_of_le, le_refl, le_step, le_antisymm, sub-zero, zero-sub, suc-sub-suc}
+use Prim.Native.Nat.{ℕ, zero, suc, ◌+◌, ◌*◌, ◌≤◌, ◌<◌}
+use native.Mathlib.Nat.{not-suc-le-zero, le_of_suc-le-suc, eq-or-lt_of_le, le_refl, le_step, le_antisymm}
 use native.Mathlib.Nat.{add-zero, add-suc, mul-zero, mul-suc, mul-add}
 use native.Mathlib.Numerals.{add-one}
 use native.Mathlib.Omega.{arith}
@@ -13,6 +13,7 @@ use borrow.Author.Tests.{leb-true, le-leb, lt-ltb}
 use lib.Dec.{leb, ltb}
 use lib.ListN.{length, drop, set, length-append, length-set, get_or-append, get_or-eq_default}
 use lib.Seq.{drop-cons, set_at, get_or_at, ext_get_or}
+use Rattle.std.proofs.lemmas.List.{drop-replicate}
 use Rattle.numbers.specs.Lists.{tab, sum_to, all_to, any_to, count_to, sum, at, zeros, padded, none_above, Filled}
 
 pub by_cases {ℓ} : {P : Type ℓ} (b : Bool) → (b ≡ true → P) → (b ≡ false → P) → P
@@ -232,12 +233,7 @@ drop_past (x ∷ xs) (suc n) h = drop_past xs n (le_of_suc-le-suc h)
 pub filled_whole : {f : ℕ → ℕ} {d l : List ℕ} (n : ℕ) → length d ≡ n → Filled f d l n → l ≡ tab n f
 filled_whole {f} {d} {l} n e filled = filled.is ∙ rw (drop_past d n (omega arith), append-nil)
 
-drop_zeros : (t n : ℕ) → drop t (zeros n) ≡ zeros (n - t)
-drop_zeros zero n = rw sub-zero
-drop_zeros (suc t) zero = rw zero-sub
-drop_zeros (suc t) (suc n) = rw suc-sub-suc (drop_zeros t n)
-
 -- the front of a list of zeros, filled
 pub filled_padded : {f : ℕ → ℕ} {d l : List ℕ} {n : ℕ} (m : ℕ) → Filled f d l n → d ≡ zeros m → l ≡ padded m (tab n f)
 unfolding padded
-filled_padded {f} {d} {l} {n} m filled e = filled.is ∙ rw (e, drop_zeros, length_tab n f)
+filled_padded {f} {d} {l} {n} m filled e = filled.is ∙ rw (e, drop-replicate, length_tab n f)

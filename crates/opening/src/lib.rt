@@ -4,31 +4,58 @@
 ghost use Rattle.std.specs.Prelude.{◌≡◌};
 ghost use Rattle.model.specs.Refusals.{open_refusal};
 ghost use Rattle.model.specs.Opening.{Opens};
+ghost use Rattle.model.specs.Refused.{number_of, GivesPoint};
 
 use calendar::{Date, is_month};
 use contract::{Contract, is_agreed, keep, meters_fit};
-use model::{Answer, answer_with, refuse_if};
-use power::{agreed_fits, cable_fits, list_fits, power_of};
-use record::{fresh_record, zero_record};
+use model::refusals::{Refusal, refuse_if};
+use model::{Answer, answer_of};
+use power::{agreed_fits, list_fits, power_of};
+use record::{Record, fresh_record, zero_record};
 use store::clear_store;
 
-// The number of an opening: 1 and 10 to 14.
+// The refusals of an opening: 1 and 10 to 14.
 #[tactic(auto, unfolding(model::specs::Refusals::open_refusal))]
-fn open_refusal(words: usize, asked: Contract, date: Date, currents: &[u32], place: usize) -> u32
-    ensures { result ≡ open_refusal words (record { asked = asked; date = date; currents = currents.now; place = place }) }
+fn check_opening(
+    words: usize,
+    asked: Contract,
+    date: Date,
+    currents: &[u32],
+    place: usize,
+) -> Result<(), Refusal>
+    ensures { number_of result ≡ open_refusal words (record { asked = asked; date = date; currents = currents.now; place = place }) }
 {
     let cabled = asked.basis == 3;
-    let agreed = is_agreed(asked.basis) & agreed_fits(asked.power);
-    let n = refuse_if((asked.basis == 2) & !list_fits(currents, place), 14, 0);
-    let n = refuse_if(cabled & !cable_fits(asked.cable), 13, n);
-    let n = refuse_if(!(cabled | agreed), 12, n);
-    let n = refuse_if(!meters_fit(asked), 11, n);
-    let n = refuse_if(!is_month(date), 10, n);
-    refuse_if(words != 10416, 1, n)
+    let agreed = is_agreed(asked.basis) && agreed_fits(asked.power);
+    refuse_if(words != 10416, Refusal::StoreSize)?;
+    refuse_if(!is_month(date), Refusal::NoSuchMonth)?;
+    refuse_if(!meters_fit(asked), Refusal::MeterKind)?;
+    refuse_if(!(cabled || agreed), Refusal::BasisOrPower)?;
+    refuse_if(cabled && !asked.cable.fits(), Refusal::CableValue)?;
+    refuse_if(
+        asked.basis == 2 && !list_fits(currents, place),
+        Refusal::CurrentsOrPlace,
+    )
+}
+
+fn try_open(
+    asked: Contract,
+    date: Date,
+    currents: &[u32],
+    place: usize,
+    store: &mut [u32],
+) -> Result<Record, Refusal>
+    ensures { GivesPoint (record { asked = asked; date = date; currents = currents.now; place = place }) store.old result store.new }
+{
+    check_opening(store.len(), asked, date, currents, place)?;
+    let p = power_of(asked.basis, asked.power, currents, place, asked.cable);
+    clear_store(store);
+    Ok(fresh_record(keep(asked, p), date))
 }
 
 // Opens a point for a month on the contract asked for. On basis 1 or 2 the contract's power is the agreed one; on basis 2
 // it is shared by the currents of the points' cables, and `place` is the point's place in that list, counted from 0.
+#[tactic(auto, using(model::proofs::Laws::opening_does))]
 pub fn open_point(
     asked: Contract,
     date: Date,
@@ -38,11 +65,5 @@ pub fn open_point(
 ) -> Answer
     ensures { Opens (record { asked = asked; date = date; currents = currents.now; place = place }) store.old result store.new }
 {
-    let n = open_refusal(store.len(), asked, date, currents, place);
-    if n != 0 {
-        return answer_with(n, zero_record());
-    }
-    let p = power_of(asked.basis, asked.power, currents, place, asked.cable);
-    clear_store(store);
-    answer_with(0, fresh_record(keep(asked, p), date))
+    answer_of(try_open(asked, date, currents, place, store), zero_record())
 }

@@ -10,20 +10,17 @@ use native.Mathlib.Decide.{dec_lt}
 use borrow.Author.Tests.{leb-true, le-leb, eqb-true, ltb-true}
 use lib.Dec.{eqb, leb, ltb}
 use lib.ListN.{length, get_or-eq_default}
+use Rattle.std.specs.List.{list_all}
 use Rattle.numbers.specs.Lists.{all_to, sum_to, at}
 use Rattle.numbers.proofs.Laws.{by_cases, both, either, cond_most, all_at, sum_most}
 use Rattle.numbers.proofs.Rounds.{half_up_most}
 use Rattle.units.specs.Volumes.{greatest_volume_read, greatest_month_volume}
 use Rattle.sharing.specs.Shares.{month_fits, weights_fit, share_in}
 use Rattle.sharing.proofs.Rule.{shares_most}
+use Rattle.numbers.proofs.Items.{all_by_to}
 use Rattle.power.specs.declared.Cable.{Cable}
 use Rattle.power.specs.Power.{counted_cosine, formula, cable_fits, formula_in, agreed_fits, current_fits, list_fits, shared_power, basis_fits, power_on}
 use Rattle.power.specs.Limits.{CableLimits, AgreedLimits, ListLimits}
-
--- a cable is given by its four numbers
-pub same_cable : {a v c n : ℕ} (k : Cable) → a ≡ k.amperes → v ≡ k.volts → c ≡ k.cosine → n ≡ k.phases
-    → record { amperes = a; volts = v; cosine = c; phases = n } ≡ k
-same_cable k e f g h = λ i. record { amperes = e i; volts = f i; cosine = g i; phases = h i }
 
 -- the limits that cable_fits tests
 pub cable_limits : (k : Cable) → cable_fits k ≡ true → CableLimits k
@@ -43,12 +40,20 @@ cable_limits k h =
       phases = ⊎_elim (λ e. inl (eqb-true _ _ e)) (λ e. inr (eqb-true _ _ e)) (either _ (eqb k.phases 3) p.1);
     }
 
+-- so that the product of the formula fits 64 bits
+pub product_most : (a v c t : ℕ) → a ≤ 2000 → v ≤ 250000 → c ≤ 1000 → t ≤ 8760 → a * v * c * t ≤ 4380000000000000000
+product_most a v c t i j k l = omega (arith, mul-le-mul (mul-le-mul (mul-le-mul i j) k) l)
+
 -- those that agreed_fits tests
 pub agreed_limits : (p : ℕ) → agreed_fits p ≡ true → AgreedLimits p
 unfolding agreed_fits
 agreed_limits p h =
     let q = both (leb 1 p) (leb p 1000000) h in
     record { low = leb-true _ _ q.0; high = leb-true _ _ q.1 }
+
+-- each item of a list of currents fits where each place does
+pub currents_all : (currents : List ℕ) → list_all (λ x. leb 1 x && leb x 2000) currents ≡ all_to (current_fits currents) (length currents)
+currents_all currents = all_by_to (λ x. leb 1 x && leb x 2000) 0 currents
 
 -- and those that list_fits tests
 pub list_limits : (currents : List ℕ) (place : ℕ) → list_fits currents place ≡ true → ListLimits currents place

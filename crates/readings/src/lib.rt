@@ -1,145 +1,238 @@
 // This month's readings: of the billing meter and the control meter in both forms, and of the neighbour.
 #![tactic(auto)]
 
-ghost use Rattle.std.specs.Prelude.{◌≡◌, false, []};
+ghost use Rattle.std.specs.Prelude.{◌≡◌, ℕ, [], ◌≤◌, OnOk};
+ghost use Rattle.record.specs.Record.{with_readings};
 ghost use Rattle.rules.specs.Calls.Call.{billing_hours, billing_volume, control_hours, control_volume, neighbour};
-ghost use Rattle.model.specs.Refusals.{refuse_anyone, refuse_reading, is_barred, not_month, hour_above, volume_above, billing_hours_number};
-ghost use Rattle.model.specs.Refusals.{control_hours_number, billing_volume_number, control_volume_number, neighbour_number};
-ghost use Rattle.model.specs.Model.{state, Does};
+ghost use Rattle.model.specs.Refusals.{refuse, hour_above, volume_above, source_given};
+ghost use Rattle.model.specs.Model.{state, with_source, Does};
+ghost use Rattle.model.specs.Refused.{number_or, Gives};
+ghost use Rattle.readings.specs.Meters.{form_kind, kind_of, reading_of, with_reading, row_of, bars, hours_call, volume_call, refuse_meter, source_number};
+ghost use Rattle.readings.specs.Meters.{FindsSource};
 
 use calendar::open_hours;
-use model::{Answer, answer_with, refuse_anyone, refuse_reading};
-use numbers::{none_above, pick};
-use record::changes::{given_as, given_hours, with_billing, with_control, with_first, with_second};
-use record::{Record, Service};
+use contract::Contract;
+use model::refusals::{Refusal, check_anyone, refuse_if};
+use model::{Answer, answer_of};
+use numbers::none_above;
+use record::changes::{given_as, given_hours};
+use record::{Reading, ReadingOf, Readings, Record, Service};
 use store::write_row;
 use units::Kwh;
 use validity::volume_limit;
 
-// Number 21: out of service, or with two denials.
-fn is_barred(s: Service) -> bool
-    ensures { result ≡ is_barred s }
-{
-    !(s.serving == 1) | (s.denials == 2)
+// How a meter is read: an interval meter in hours, an integral one in a volume.
+#[derive(Clone, Copy, Debug, PartialEq, Eq)]
+enum Form {
+    Hours,
+    Volume,
 }
 
-// The numbers of a reading of hours, 20 to 24.
-fn refuse_hours(r: Record, t20: bool, t21: bool, t22: bool, hours: &[u32]) -> u32
-    ensures { result ≡ refuse_reading t20 t21 t22 (not_month r hours.now) (hour_above hours.now) }
+impl Form {
+    // The kind of such a meter in a contract.
+    fn kind(self) -> u32
+        ensures { result ≡ form_kind self }
+    {
+        match self {
+            Form::Hours => 1,
+            Form::Volume => 2,
+        }
+    }
+}
+
+// A meter of the point.
+#[derive(Clone, Copy, Debug, PartialEq, Eq)]
+enum Meter {
+    Billing,
+    Control,
+}
+
+impl Meter {
+    fn kind(self, c: Contract) -> u32
+        ensures { result ≡ kind_of self c }
+    {
+        match self {
+            Meter::Billing => c.billing,
+            Meter::Control => c.control,
+        }
+    }
+
+    fn reading(self, g: Readings) -> Reading
+        ensures { result ≡ reading_of self g }
+    {
+        match self {
+            Meter::Billing => g.billing,
+            Meter::Control => g.control,
+        }
+    }
+
+    fn row(self) -> usize
+        ensures { (result ≡ row_of self) × (result ≤ 13) }
+    {
+        match self {
+            Meter::Billing => 12,
+            Meter::Control => 13,
+        }
+    }
+
+    // A billing reading is barred while out of service or with two denials, a control reading never.
+    fn is_barred(self, s: Service) -> bool
+        ensures { result ≡ bars self s }
+    {
+        match self {
+            Meter::Billing => s.serving != 1 || s.denials == 2,
+            Meter::Control => false,
+        }
+    }
+
+    // The record with this meter's reading.
+    fn give(self, r: Record, x: Reading) -> Record
+        ensures { result ≡ with_readings r (with_reading self r.readings x) }
+    {
+        match self {
+            Meter::Billing => r.with_reading(ReadingOf::Billing, x),
+            Meter::Control => r.with_reading(ReadingOf::Control, x),
+        }
+    }
+}
+
+// Where a neighbour's volume is read: at its billing meter, or at its control meter.
+#[derive(Clone, Copy, Debug, PartialEq, Eq)]
+enum Source {
+    First,
+    Second,
+}
+
+// Number 20 where no source has the number.
+#[tactic(auto, unfolding(model::proofs::Laws::call_definitions))]
+impl TryFrom<u32> for Source {
+    type Error = Refusal;
+
+    ghost try_from_gives = { FindsSource };
+
+    fn try_from(number: u32) -> Result<Source, Refusal> {
+        match number {
+            1 => Ok(Source::First),
+            2 => Ok(Source::Second),
+            _ => Err(Refusal::NoSuchMeter),
+        }
+    }
+}
+
+impl Source {
+    fn is_given(self, r: Record) -> bool
+        ensures { result ≡ source_given r (source_number self) }
+    {
+        match self {
+            Source::First => r.readings.first.given == 1,
+            Source::Second => r.readings.second.given == 1,
+        }
+    }
+
+    // The record with this source's reading.
+    fn give(self, r: Record, x: Reading) -> Record
+        ensures { result ≡ with_readings r (with_source r.readings (source_number self) x) }
+    {
+        match self {
+            Source::First => r.with_reading(ReadingOf::First, x),
+            Source::Second => r.with_reading(ReadingOf::Second, x),
+        }
+    }
+}
+
+// Anyone's refusals, and then 20 to 22 of a reading in a form.
+fn check_meter(words: usize, r: Record, meter: Meter, form: Form) -> Result<(), Refusal>
+    ensures number { (rest : ℕ) → refuse_meter words r meter (form_kind form) rest ≡ number_or result rest }
+    ensures passed { OnOk result (words ≡ 10416) }
+{
+    check_anyone(words, r)?;
+    refuse_if(meter.kind(r.contract) != form.kind(), Refusal::NoSuchMeter)?;
+    refuse_if(meter.is_barred(r.service), Refusal::Barred)?;
+    refuse_if(meter.reading(r.readings).given == 1, Refusal::AlreadyGiven)
+}
+
+// Number 24 of a volume.
+fn check_volume(r: Record, volume: Kwh) -> Result<(), Refusal>
+    ensures { (rest : ℕ) → refuse (volume_above r volume.0) 24 rest ≡ number_or result rest }
+{
+    refuse_if(volume_limit(r.date) < volume.0, Refusal::ReadingAboveLimit)
+}
+
+// Number 24 of hours.
+fn has_hour_above(hours: &[u32]) -> bool
+    ensures { result ≡ hour_above hours.now }
+{
+    !none_above(hours, 1000000)
+}
+
+#[tactic(auto, using(crate::proofs::Laws::hours_laws))]
+fn try_hours(r: Record, store: &mut [u32], meter: Meter, hours: &[u32]) -> Result<Record, Refusal>
+    ensures { Gives (state r store.old) (hours_call meter hours.now) result store.new }
 {
     let t = open_hours(r.date) as usize;
-    refuse_reading(t20, t21, t22, hours.len() != t, !none_above(hours, 1000000))
+    check_meter(store.len(), r, meter, Form::Hours)?;
+    refuse_if(hours.len() != t, Refusal::NotMonthHours)?;
+    refuse_if(has_hour_above(hours), Refusal::ReadingAboveLimit)?;
+    write_row(store, meter.row(), hours);
+    Ok(meter.give(r, given_hours()))
 }
 
-// The numbers of a reading of a volume, 20 to 22 and 24.
-fn refuse_volume(r: Record, t20: bool, t21: bool, t22: bool, volume: Kwh) -> u32
-    ensures { result ≡ refuse_reading t20 t21 t22 false (volume_above r volume.0) }
+#[tactic(auto, using(crate::proofs::Laws::volume_number, crate::proofs::Laws::volume_left), unfolding(model::proofs::Laws::call_definitions))]
+fn try_volume(r: Record, store: &[u32], meter: Meter, volume: Kwh) -> Result<Record, Refusal>
+    ensures { Gives (state r store.now) (volume_call meter volume.0) result store.now }
 {
-    refuse_reading(t20, t21, t22, false, volume_limit(r.date) < volume.0)
+    check_meter(store.len(), r, meter, Form::Volume)?;
+    check_volume(r, volume)?;
+    Ok(meter.give(r, given_as(volume)))
 }
 
-fn billing_hours_refusal(words: usize, r: Record, hours: &[u32]) -> u32
-    ensures { result ≡ refuse_anyone words r (billing_hours_number r hours.now) }
+#[tactic(auto, unfolding(model::proofs::Laws::call_definitions))]
+fn try_neighbour(r: Record, store: &[u32], source: u32, volume: Kwh) -> Result<Record, Refusal>
+    ensures { Gives (state r store.now) (neighbour source volume.0) result store.now }
 {
-    let other = r.contract.billing != 1;
-    let given = r.readings.billing.given == 1;
-    let n = refuse_hours(r, other, is_barred(r.service), given, hours);
-    refuse_anyone(words, r, n)
+    check_anyone(store.len(), r)?;
+    let source = Source::try_from(source)?;
+    refuse_if(source.is_given(r), Refusal::AlreadyGiven)?;
+    check_volume(r, volume)?;
+    Ok(source.give(r, given_as(volume)))
 }
 
 // The hours of an interval billing meter.
+#[tactic(auto, using(model::proofs::Laws::call_does), unfolding(model::proofs::Laws::call_definitions))]
 pub fn read_billing_hours(r: Record, store: &mut [u32], hours: &[u32]) -> Answer
     ensures { Does (state r store.old) (billing_hours hours.now) result store.new [] }
 {
-    let n = billing_hours_refusal(store.len(), r, hours);
-    if n != 0 {
-        return answer_with(n, r);
-    }
-    write_row(store, 12, hours);
-    answer_with(0, with_billing(r, given_hours()))
-}
-
-fn control_hours_refusal(words: usize, r: Record, hours: &[u32]) -> u32
-    ensures { result ≡ refuse_anyone words r (control_hours_number r hours.now) }
-{
-    let other = r.contract.control != 1;
-    let given = r.readings.control.given == 1;
-    let n = refuse_hours(r, other, false, given, hours);
-    refuse_anyone(words, r, n)
+    answer_of(try_hours(r, store, Meter::Billing, hours), r)
 }
 
 // The hours of an interval control meter.
+#[tactic(auto, using(model::proofs::Laws::call_does), unfolding(model::proofs::Laws::call_definitions))]
 pub fn read_control_hours(r: Record, store: &mut [u32], hours: &[u32]) -> Answer
     ensures { Does (state r store.old) (control_hours hours.now) result store.new [] }
 {
-    let n = control_hours_refusal(store.len(), r, hours);
-    if n != 0 {
-        return answer_with(n, r);
-    }
-    write_row(store, 13, hours);
-    answer_with(0, with_control(r, given_hours()))
-}
-
-fn billing_volume_refusal(words: usize, r: Record, volume: Kwh) -> u32
-    ensures { result ≡ refuse_anyone words r (billing_volume_number r volume.0) }
-{
-    let other = r.contract.billing != 2;
-    let given = r.readings.billing.given == 1;
-    let n = refuse_volume(r, other, is_barred(r.service), given, volume);
-    refuse_anyone(words, r, n)
+    answer_of(try_hours(r, store, Meter::Control, hours), r)
 }
 
 // The volume of an integral billing meter.
+#[tactic(auto, using(model::proofs::Laws::call_does), unfolding(model::proofs::Laws::call_definitions))]
 pub fn read_billing_volume(r: Record, store: &[u32], volume: Kwh) -> Answer
     ensures { Does (state r store.now) (billing_volume volume.0) result store.now [] }
 {
-    let n = billing_volume_refusal(store.len(), r, volume);
-    if n != 0 {
-        return answer_with(n, r);
-    }
-    answer_with(0, with_billing(r, given_as(volume)))
-}
-
-fn control_volume_refusal(words: usize, r: Record, volume: Kwh) -> u32
-    ensures { result ≡ refuse_anyone words r (control_volume_number r volume.0) }
-{
-    let other = r.contract.control != 2;
-    let given = r.readings.control.given == 1;
-    let n = refuse_volume(r, other, false, given, volume);
-    refuse_anyone(words, r, n)
+    answer_of(try_volume(r, store, Meter::Billing, volume), r)
 }
 
 // The volume of an integral control meter.
+#[tactic(auto, using(model::proofs::Laws::call_does), unfolding(model::proofs::Laws::call_definitions))]
 pub fn read_control_volume(r: Record, store: &[u32], volume: Kwh) -> Answer
     ensures { Does (state r store.now) (control_volume volume.0) result store.now [] }
 {
-    let n = control_volume_refusal(store.len(), r, volume);
-    if n != 0 {
-        return answer_with(n, r);
-    }
-    answer_with(0, with_control(r, given_as(volume)))
-}
-
-fn neighbour_refusal(words: usize, r: Record, source: u32, volume: Kwh) -> u32
-    ensures { result ≡ refuse_anyone words r (neighbour_number r source volume.0) }
-{
-    let other = !((source == 1) | (source == 2));
-    let given = pick(source == 1, r.readings.first.given, r.readings.second.given) == 1;
-    let n = refuse_volume(r, other, false, given, volume);
-    refuse_anyone(words, r, n)
+    answer_of(try_volume(r, store, Meter::Control, volume), r)
 }
 
 // A neighbour's volume, of source 1, its billing meter, or 2, its control meter.
+#[tactic(auto, using(model::proofs::Laws::call_does), unfolding(model::proofs::Laws::call_definitions))]
 pub fn read_neighbour(r: Record, store: &[u32], source: u32, volume: Kwh) -> Answer
     ensures { Does (state r store.now) (neighbour source volume.0) result store.now [] }
 {
-    let n = neighbour_refusal(store.len(), r, source, volume);
-    if n != 0 {
-        return answer_with(n, r);
-    }
-    let reading = given_as(volume);
-    if source == 1 {
-        return answer_with(0, with_first(r, reading));
-    }
-    answer_with(0, with_second(r, reading))
+    answer_of(try_neighbour(r, store, source, volume), r)
 }

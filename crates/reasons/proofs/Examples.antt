@@ -14,9 +14,13 @@ use Rattle.contract.specs.declared.Contract.{Contract}
 use Rattle.contract.specs.Contract.{no_cable, power_of}
 use Rattle.record.specs.declared.Record.{Record}
 use Rattle.record.specs.Record.{kwh, no_readings, fresh_record, fresh_service, with_service, with_readings, with_past, with_serving, with_denials, with_billing}
-use Rattle.rules.specs.Rules.{Measured, missing, hourly, whole, PastHours, no_past_hours, past_hours, Inputs, counted_of, neighbour_of}
+use Rattle.rules.specs.Rules.{Measured, missing, hourly, whole, PastHours, Inputs, counted_of, neighbour_of}
 use Rattle.model.specs.Model.{state, measured_in, stated_in, past_in, inputs}
-use Rattle.reasons.specs.Reasons.{clause_of, volume_read, no_date, past_month, compared_past, compared_control, compared_billing, compared_in, reasons_of}
+use Rattle.std.specs.Prelude.{None, Some}
+use Rattle.rules.specs.Grounds.{clause_number}
+use Rattle.rules.specs.declared.Clause.TheVariants.{Missed, DeniedTwice, OutOfService}
+use Rattle.grounds.specs.Found.{past_month}
+use Rattle.reasons.specs.Reasons.{clause_of, volume_read, compared_past, compared_control, compared_billing, compared_in, reasons_of}
 
 abbrev pub on : ℕ → ℕ → Date
 on y m = record { year = y; month = m }
@@ -33,10 +37,15 @@ served given serving denials =
     (with_billing no_readings (record { given = given; volume = kwh 0 }))
 
 clauses :
-    (clause_of (served 1 1 0) ≡ 0) × (clause_of (served 1 0 2) ≡ 0) × (clause_of (served 0 1 0) ≡ 166) × (clause_of (served 0 1 1) ≡ 166)
-    × (clause_of (served 0 0 0) ≡ 179) × (clause_of (served 0 0 1) ≡ 179) × (clause_of (served 0 1 2) ≡ 178) × (clause_of (served 0 0 2) ≡ 178)
+    (clause_of (served 1 1 0) ≡ None) × (clause_of (served 1 0 2) ≡ None) × (clause_of (served 0 1 0) ≡ Some Missed) × (clause_of (served 0 1 1) ≡ Some Missed)
+    × (clause_of (served 0 0 0) ≡ Some OutOfService) × (clause_of (served 0 0 1) ≡ Some OutOfService)
+    × (clause_of (served 0 1 2) ≡ Some DeniedTwice) × (clause_of (served 0 0 2) ≡ Some DeniedTwice)
 unfolding clause_of
 clauses = (refl, refl, refl, refl, refl, refl, refl, refl)
+
+-- the numbers of the points
+points : (clause_number Missed ≡ 166) × (clause_number DeniedTwice ≡ 178) × (clause_number OutOfService ≡ 179)
+points = (refl, refl, refl)
 
 -- B even at 0; K only without a billing reading; nothing of an interval meter
 volumes :
@@ -52,8 +61,8 @@ after year latest = with_past (fresh_record contract (on 2024 2)) (record { year
 
 -- February 2023 goes before December 2023, number 24,288; a February of 2022 does not
 pasts :
-    (past_month (after 2023 24288) ≡ on 2023 2) × (past_month (after 2022 24288) ≡ on 2023 12) × (past_month (after 2022 24266) ≡ on 2022 2)
-    × (past_month (after 0 24289) ≡ on 2024 1) × (past_month (after 0 0) ≡ no_date)
+    (past_month (after 2023 24288) ≡ Some (on 2023 2)) × (past_month (after 2022 24288) ≡ Some (on 2023 12))
+    × (past_month (after 2022 24266) ≡ Some (on 2022 2)) × (past_month (after 0 24289) ≡ Some (on 2024 1)) × (past_month (after 0 0) ≡ None)
 unfolding past_month date_of
 pasts = (refl, refl, refl, refl, refl)
 
@@ -70,7 +79,7 @@ january marks r b k n past =
 
 -- a past of 5 kWh; and C' of a day with one peak and capacity hour, hour 10
 abbrev row : PastHours
-row = past_hours (5 ∷ [])
+row = Some (5 ∷ [])
 
 abbrev marked : ℕ → List ℕ
 marked m = set (zeros 24) 10 m
@@ -78,7 +87,7 @@ marked m = set (zeros 24) 10 m
 -- C' is 0 with R 2, without peak hours, without a past, and with any other reading than K. Values of it are in the crate `whole_months`
 sums :
     (compared_in (january (marked 3) 2 missing (whole 20) 4 row) ≡ 0) × (compared_in (january (marked 2) 3 missing (whole 20) 4 row) ≡ 0)
-    × (compared_in (january (marked 3) 3 missing (whole 20) 4 no_past_hours) ≡ 0) × (compared_in (january (marked 3) 3 (whole 20) (whole 20) 4 row) ≡ 0)
+    × (compared_in (january (marked 3) 3 missing (whole 20) 4 None) ≡ 0) × (compared_in (january (marked 3) 3 (whole 20) (whole 20) 4 row) ≡ 0)
     × (compared_in (january (marked 3) 3 missing (hourly (5 ∷ [])) 4 row) ≡ 0) × (compared_in (january (marked 3) 3 missing missing 4 row) ≡ 0)
 unfolding reason_definitions
 sums = (refl, refl, refl, refl, refl, refl)
@@ -87,7 +96,7 @@ sums = (refl, refl, refl, refl, refl, refl)
 plain_answer :
     reasons_of (state (with_service (fresh_record contract (on 2023 1)) (with_denials fresh_service 2)) []) []
     ≡ record {
-      clause = 178;
+      clause = Some DeniedTwice;
       reading = kwh 0;
       neighbour = kwh 0;
       power = record { 0 = 3 };
@@ -95,7 +104,7 @@ plain_answer :
       run = 0;
       denials = 2;
       counted = 3;
-      past = no_date;
+      past = None;
       compared = kwh 0;
     }
 unfolding reason_definitions

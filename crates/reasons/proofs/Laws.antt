@@ -1,16 +1,15 @@
 -- The reasons, as the code tells them, and what they say of the rules. Assumes nothing.
-use Prim.Native.Nat.{ℕ, ◌-◌, ◌*◌, ◌≤◌}
+use Prim.Native.Nat.{ℕ, ◌-◌, ◌*◌}
 use mathlib.Core.Path.{◌≡◌, refl, sym, ap, ◌∙◌}
-use mathlib.Core.Logic.{◌≢◌}
 use mathlib.Core.Bool.{Bool, true, false, not, cond, ◌&&◌}
 use mathlib.Core.List.{List}
 use native.Mathlib.Nat.{mul-zero}
 use native.Mathlib.Omega.{arith}
-use borrow.Author.Tests.{eqb-true, eqb-false, eq-eqb, ne_eqb, leb-true, leb-false, le-leb, lt-leb, le-ltb}
+use borrow.Author.Tests.{leb-true, leb-false, le-leb, lt-leb, le-ltb}
 use lib.Dec.{eqb, leb, ltb}
-use Rattle.numbers.specs.Lists.{at}
-use Rattle.numbers.proofs.Laws.{by_cases, both}
-use Rattle.calendar.specs.Calendar.{open_hours, month_number, is_month_number, date_of, date_in}
+use Rattle.std.specs.Prelude.{Option, None, Some}
+use Rattle.numbers.proofs.Laws.{by_cases}
+use Rattle.calendar.specs.Calendar.{open_hours}
 use Rattle.sharing.specs.Shares.{shares, stretched}
 use Rattle.store.specs.Store.{row_part}
 use Rattle.marks.specs.declared.Survey.{Survey}
@@ -19,19 +18,16 @@ use Rattle.marks.specs.Peak.{peak_part}
 use Rattle.record.specs.declared.Reading.{Reading}
 use Rattle.record.specs.declared.Record.{Record}
 use Rattle.record.specs.Record.{is_set}
-use Rattle.validity.specs.Valid.{valid}
-use Rattle.validity.proofs.Laws.{valid_parts, past_parts}
 use Rattle.store.specs.Store.{as_row}
-use Rattle.rules.specs.Calls.{Call}
-use Rattle.rules.specs.Rules.{Measured, missing, hourly, whole, PastHours, no_past_hours, past_hours, Inputs, counted_of, hours_in, peaks_in, days_in}
+use Rattle.rules.specs.Rules.{Measured, missing, hourly, whole, PastHours, Inputs, counted_of, hours_in, peaks_in, days_in}
 use Rattle.rules.specs.Rules.{point_power, by_peaks, by_weights, as_read, evenly, by_contract, on_past, ground_six_in, on_control_past, on_control, on_billing}
 use Rattle.rules.specs.Rules.{rules}
-use Rattle.model.specs.Model.{State, state, measured_in, row_hours, last_year, past_in, inputs, refusal, accepted}
-use Rattle.grounds.specs.declared.past.PastMonth.{PastMonth}
-use Rattle.grounds.specs.Found.{hours_from, PastFound}
-use Rattle.grounds.proofs.PastMonths.{month_limits, latest_date}
+use Rattle.model.specs.Model.{state, measured_in, inputs}
+use Rattle.grounds.specs.declared.past_month.PastMonth.{PastMonth}
+use Rattle.grounds.specs.Found.{PastFound}
+use Rattle.first_ground.proofs.Firsts.{inputs_past, inputs_no_past}
 use Rattle.first_ground.proofs.Laws.{Known, peaks_are, capacity_row}
-use Rattle.reasons.specs.Reasons.{volume_read, past_month, compared_past, compared_control, compared_billing, compared_in}
+use Rattle.reasons.specs.Reasons.{volume_read, compared_past, compared_control, compared_billing, compared_in}
 
 -- B or K, as the record holds the two readings
 pub reading_is : (b k : ℕ) (g h : Reading) (hs ks : List ℕ)
@@ -41,45 +37,6 @@ unfolding volume_read measured_in
 reading_is b k g h hs ks =
     by_cases (is_set g.given) (λ t. rw t (by_cases (eqb b 1) (λ o. rw o) (λ o. rw o)))
     (λ f. rw f (by_cases (is_set h.given) (λ t. rw t (by_cases (eqb k 1) (λ o. rw o) (λ o. rw o))) (λ n. rw n)))
-
--- THE PAST MONTH
-pub past_last_year : (r : Record) → at r.past.years (r.date.month - 1) ≡ r.date.year - 1 → last_year r.date ≡ past_month r
-unfolding past_month
-past_last_year r e = rw (eq-eqb _ _ e)
-
-pub past_latest : (r : Record) → valid r ≡ true → at r.past.years (r.date.month - 1) ≢ r.date.year - 1
-    → date_in r.past.latest ≡ past_month r
-unfolding past_month date_in
-past_latest r v n =
-    rw (ne_eqb (at r.past.years (r.date.month - 1)) (r.date.year - 1) n)
-    (by_cases (eqb r.past.latest 0) (λ t. rw (eqb-true r.past.latest 0 t)) (λ f. rw f (latest_date r v (eqb-false _ _ f))))
-
--- the latest past month is not before 2014
-latest_low : (r : Record) → valid r ≡ true → r.past.latest ≢ 0 → 24169 ≤ r.past.latest
-latest_low r v n =
-    let l = r.past.latest in
-    let p = (past_parts r.past r.date (valid_parts r v).past).latest in
-    let q = both (is_month_number l) (ltb l (month_number r.date)) (rw (ne_eqb l 0 n) at p) in
-    leb-true 24169 l (both (leb 24169 l) (leb l 36000) q.0).0
-
-latest_there : (r : Record) → valid r ≡ true → r.past.latest ≢ 0 → (date_of r.past.latest).year ≢ 0
-unfolding date_of
-latest_there r v n z = omega (arith, latest_low r v n)
-
-year_there : (r : Record) → valid r ≡ true → r.date.year - 1 ≢ 0
-unfolding month_number
-year_there r v z = omega (arith, month_limits r v)
-
--- THE PAST IS THE PAST MONTH'S: none where its year is 0, else its hours
-pub past_is : (s : State) → valid s.point ≡ true
-    → past_in s ≡ cond (eqb (past_month s.point).year 0) no_past_hours (past_hours (row_hours s (past_month s.point)))
-unfolding past_in past_month
-past_is s v =
-    let r = s.point in
-    by_cases (eqb (at r.past.years (r.date.month - 1)) (r.date.year - 1))
-    (λ t. rw (t, ne_eqb (r.date.year - 1) 0 (year_there r v)))
-    (λ f. rw f (by_cases (eqb r.past.latest 0) (λ t. rw t)
-    (λ n. rw (n, ne_eqb (date_of r.past.latest).year 0 (latest_there r v (eqb-false _ _ n))))))
 
 -- C', as the code tests for it
 billing_compared : (i : Inputs) (kind : ℕ) (g : Reading) (hs : List ℕ)
@@ -94,65 +51,74 @@ unfolding compared_control measured_in
 control_compared i kind g hs =
     by_cases (is_set g.given) (λ t. rw t (by_cases (eqb kind 1) (λ o. rw o) (λ o. rw o))) (λ f. rw f)
 
-past_compared : (i : Inputs) (v : ℕ) (store : List ℕ) (p : PastMonth)
-    → compared_past i v (hours_from store p)
-    ≡ cond (p.found && (leb 3 i.counted && ltb 0 (peaks_in i)))
-    (capacity_sum i.marks (shares v (stretched (row_part store p.row p.hours) (hours_in i)))) 0
-unfolding compared_past hours_from
-past_compared i v store p = by_cases p.found (λ t. rw t) (λ f. rw f)
+six_tests : (a b d f g : Bool) (x : ℕ) → cond a (cond (b && d) (cond (f && g) x 0) 0) 0 ≡ cond (a && b && d && f && g) x 0
+six_tests false b d f g x = refl
+six_tests true false d f g x = refl
+six_tests true true false f g x = refl
+six_tests true true true f g x = refl
 
-six_tests : (a b d e f g : Bool) (x : ℕ) → cond a (cond (b && d) (cond (e && (f && g)) x 0) 0) 0 ≡ cond (a && b && d && e && f && g) x 0
-six_tests false b d e f g x = refl
-six_tests true false d e f g x = refl
-six_tests true true false e f g x = refl
-six_tests true true true false f g x = refl
-six_tests true true true true false g x = refl
-six_tests true true true true true g x = refl
-
-compared_when : (i : Inputs) (b k : ℕ) (g h : Reading) (hs ks store : List ℕ) (p : PastMonth) → i.billing ≡ measured_in b g hs
+compared_when : (i : Inputs) (b k : ℕ) (g h : Reading) (hs ks past : List ℕ) → i.billing ≡ measured_in b g hs
     → i.control ≡ measured_in k h ks
-    → i.past ≡ hours_from store p
+    → i.past ≡ Some past
     → compared_in i
-    ≡ cond (not (is_set g.given) && is_set h.given && not (eqb k 1) && p.found && leb 3 i.counted && ltb 0 (peaks_in i))
-    (capacity_sum i.marks (shares (h.volume.0 - i.neighbour) (stretched (row_part store p.row p.hours) (hours_in i)))) 0
-unfolding compared_in
-compared_when i b k g h hs ks store p e f past =
-    let v = h.volume.0 - i.neighbour in
+    ≡ cond (not (is_set g.given) && is_set h.given && not (eqb k 1) && leb 3 i.counted && ltb 0 (peaks_in i))
+    (capacity_sum i.marks (shares (h.volume.0 - i.neighbour) (stretched past (hours_in i)))) 0
+unfolding compared_in compared_past
+compared_when i b k g h hs ks past e f there =
     ap (compared_billing i) e
     ∙ billing_compared i b g hs
-    ∙ rw (ap (compared_control i) f ∙ control_compared i k h ks, ap (compared_past i v) past ∙ past_compared i v store p)
-    (six_tests (not (is_set g.given)) (is_set h.given) (not (eqb k 1)) p.found (leb 3 i.counted) (ltb 0 (peaks_in i)) _)
+    ∙ rw (ap (compared_control i) f ∙ control_compared i k h ks, ap (compared_past i (h.volume.0 - i.neighbour)) there)
+    (six_tests (not (is_set g.given)) (is_set h.given) (not (eqb k 1)) (leb 3 i.counted) (ltb 0 (peaks_in i)) _)
 
--- the test of the code: no billing reading, control, integral, past, R at least 3, n > 0
-abbrev pub is_due : Record → PastMonth → ℕ → ℕ → Bool
-is_due r p counted peaks =
-    not (is_set r.readings.billing.given) && is_set r.readings.control.given && not (eqb r.contract.control 1) && p.found
-    && leb 3 counted && ltb 0 peaks
+-- and without a past it is 0
+control_none : (i : Inputs) (k : Measured) → i.past ≡ None → compared_control i k ≡ 0
+unfolding compared_control compared_past
+control_none i missing none = refl
+control_none i (hourly hs) none = refl
+control_none i (whole k) none = rw none
 
-compared_is : (r : Record) (store marks : List ℕ) (p : PastMonth) → PastFound r p
+billing_none : (i : Inputs) (b : Measured) → i.past ≡ None → compared_billing i b ≡ 0
+unfolding compared_billing
+billing_none i missing none = control_none i i.control none
+billing_none i (hourly hs) none = refl
+billing_none i (whole b) none = refl
+
+pub compared_none : (r : Record) (store marks : List ℕ) {o : Option PastMonth} → PastFound r o → o ≡ None
+    → 0 ≡ compared_in (inputs (state r store) marks)
+unfolding compared_in
+compared_none r store marks past none =
+    sym (billing_none (inputs (state r store) marks) _ (inputs_no_past r store marks past none))
+
+-- the test of the code, where there is a past: no billing reading, control, integral, R at least 3, n > 0
+abbrev pub is_due : Record → ℕ → ℕ → Bool
+is_due r counted peaks =
+    not (is_set r.readings.billing.given) && is_set r.readings.control.given && not (eqb r.contract.control 1) && leb 3 counted
+    && ltb 0 peaks
+
+compared_is : (r : Record) (store marks : List ℕ) (p : PastMonth) {o : Option PastMonth} → PastFound r o → o ≡ Some p
     → compared_in (inputs (state r store) marks)
-    ≡ cond (is_due r p (inputs (state r store) marks).counted (peak_count marks))
+    ≡ cond (is_due r (inputs (state r store) marks).counted (peak_count marks))
     (capacity_sum marks
     (shares (r.readings.control.volume.0 - (inputs (state r store) marks).neighbour)
     (stretched (row_part store p.row p.hours) (open_hours r.date)))) 0
 unfolding inputs
-compared_is r store marks p past =
-    compared_when (inputs (state r store) marks) _ _ r.readings.billing r.readings.control _ _ store p refl refl (past.same store)
+compared_is r store marks p past is =
+    compared_when (inputs (state r store) marks) _ _ r.readings.billing r.readings.control _ _ _ refl refl (inputs_past r store marks p past is)
 
-module _ {r : Record} {store marks buffer : List ℕ} (k : Known r store marks buffer) {p : PastMonth} (past : PastFound r p) {survey : Survey}
-    (e : survey ≡ survey_of marks)
+module _ {r : Record} {store marks buffer : List ℕ} (k : Known r store marks buffer) (p : PastMonth) {o : Option PastMonth} (past : PastFound r o)
+    (is : o ≡ Some p) {survey : Survey} (e : survey ≡ survey_of marks)
     {n : ℕ} (f : n ≡ counted_of r.service.run r.service.denials) where
-  pub compared_due : is_due r p n survey.peaks ≡ true → {v t c : ℕ} {after : List ℕ}
+  pub compared_due : is_due r n survey.peaks ≡ true → {v t c : ℕ} {after : List ℕ}
       → v ≡ r.readings.control.volume.0 - (inputs (state r store) marks).neighbour
       → t ≡ open_hours r.date → after ≡ as_row (shares v (stretched (row_part store p.row p.hours) t)) → c ≡ capacity_sum marks after
       → c ≡ compared_in (inputs (state r store) marks)
   unfolding inputs
   compared_due due volume hours filled total =
-      rw (compared_is r store marks p past, ← f, ← peaks_are k, ← e, due, total, filled, volume, hours) (capacity_row marks _)
+      rw (compared_is r store marks p past is, ← f, ← peaks_are k, ← e, due, total, filled, volume, hours) (capacity_row marks _)
 
-  pub compared_not : is_due r p n survey.peaks ≡ false → 0 ≡ compared_in (inputs (state r store) marks)
+  pub compared_not : is_due r n survey.peaks ≡ false → 0 ≡ compared_in (inputs (state r store) marks)
   unfolding inputs
-  compared_not not = rw (compared_is r store marks p past, ← f, ← peaks_are k, ← e, not)
+  compared_not not = rw (compared_is r store marks p past is, ← f, ← peaks_are k, ← e, not)
 
 -- GROUND 6 IS CHOSEN exactly where A × d < n × C', with A of the reasons' reading, N, n and P
 abbrev pub six_by : Inputs → ℕ → ℕ → Bool
@@ -173,8 +139,8 @@ six_peaks i v hs = by_cases (ltb 0 (peaks_in i)) (λ t. rw t) (λ f. rw f (six_n
 
 six_past : (i : Inputs) (v : ℕ) (p : PastHours) → eqb (on_control_past i v p).ground 6 ≡ six_by i v (compared_past i v p)
 unfolding on_control_past by_peaks by_weights compared_past
-six_past i v no_past_hours = six_not i v
-six_past i v (past_hours hs) =
+six_past i v None = six_not i v
+six_past i v (Some hs) =
     let ws = stretched hs (hours_in i) in
     by_cases (leb i.counted 2)
     (λ t. rw (t, lt-leb 3 i.counted (omega (arith, leb-true i.counted 2 t))) (six_not i v))
@@ -187,8 +153,8 @@ contract_other i = by_cases (eqb i.contract.basis 3) (λ t. rw t) (λ f. rw f)
 
 past_other : (i : Inputs) (p : PastHours) → eqb (on_past i p).ground 6 ≡ false
 unfolding on_past as_read
-past_other i no_past_hours = contract_other i
-past_other i (past_hours hs) = by_cases (leb i.counted 2) (λ t. rw t) (λ f. rw f (contract_other i))
+past_other i None = contract_other i
+past_other i (Some hs) = by_cases (leb i.counted 2) (λ t. rw t) (λ f. rw f (contract_other i))
 
 six_control : (i : Inputs) (k : Measured) → eqb (on_control i k).ground 6 ≡ six_by i (volume_read missing k - i.neighbour) (compared_control i k)
 unfolding on_control as_read compared_control volume_read
@@ -205,8 +171,3 @@ six_billing i (whole b) = six_not i (b - i.neighbour)
 pub six_is : (i : Inputs) → eqb (rules i).ground 6 ≡ six_by i (volume_read i.billing i.control - i.neighbour) (compared_in i)
 unfolding rules compared_in
 six_is i = six_billing i i.billing
-
--- A CLOSING THAT IS REFUSED
-pub is_refused : (s : State) (c : Call) {n : ℕ} → n ≡ refusal s c → n ≢ 0 → accepted s c ≡ false
-unfolding accepted
-is_refused s c e z = ne_eqb (refusal s c) 0 (λ h. z (e ∙ h))

@@ -1,20 +1,21 @@
 -- WHY A MONTH IS CLOSED ON ITS GROUND: what the rules look at (document 01, 'Closing'), before the closing.
-use Rattle.std.specs.Prelude.{ℕ, ◌-◌, cond, ◌&&◌, List, eqb, leb, ltb}
-use Rattle.numbers.specs.Lists.{at}
-use Rattle.calendar.specs.declared.Date.{Date}
-use Rattle.calendar.specs.Calendar.{date_of}
+use Rattle.std.specs.Prelude.{ℕ, ◌-◌, cond, ◌&&◌, List, Option, None, Some, eqb, leb, ltb}
 use Rattle.sharing.specs.Shares.{shares, stretched}
 use Rattle.marks.specs.Marks.{capacity_sum}
 use Rattle.record.specs.declared.Record.{Record}
 use Rattle.record.specs.Record.{is_set, kwh}
-use Rattle.rules.specs.Rules.{Measured, missing, hourly, whole, PastHours, no_past_hours, past_hours, Inputs, hours_in, peaks_in, point_power}
-use Rattle.model.specs.Model.{State, row_of, last_year, inputs}
+use Rattle.rules.specs.Rules.{Measured, missing, hourly, whole, PastHours, Inputs, hours_in, peaks_in, point_power}
+use Rattle.model.specs.Model.{State, inputs}
+use Rattle.rules.specs.declared.Clause.{Clause}
+use Rattle.rules.specs.declared.Clause.TheVariants.{Missed, DeniedTwice, OutOfService}
 use Rattle.rules.specs.declared.Reasons.{Reasons}
+use Rattle.grounds.specs.Found.{past_month}
 
 -- the point of document 000: none with a billing reading; else 178 with denials 2; else 179 out of service; else 166
-unfoldable pub clause_of : Record → ℕ
+unfoldable pub clause_of : Record → Option Clause
 clause_of r =
-    cond (is_set r.readings.billing.given) 0 (cond (eqb r.service.denials 2) 178 (cond (is_set r.service.serving) 166 179))
+    cond (is_set r.readings.billing.given) None
+    (cond (eqb r.service.denials 2) (Some DeniedTwice) (cond (is_set r.service.serving) (Some Missed) (Some OutOfService)))
 
 -- the reading that V comes from: B, or without a billing reading K; else 0
 unfoldable pub volume_read : Measured → Measured → ℕ
@@ -24,20 +25,10 @@ volume_read missing (whole k) = k
 volume_read missing (hourly hs) = 0
 volume_read missing missing = 0
 
--- year 0 and month 0
-abbrev pub no_date : Date
-no_date = record { year = 0; month = 0 }
-
--- the past is the same month last year, if its row holds that year; else the latest past month; else none
-unfoldable pub past_month : Record → Date
-past_month r =
-    cond (eqb (at r.past.years (row_of r.date)) (r.date.year - 1)) (last_year r.date)
-    (cond (eqb r.past.latest 0) no_date (date_of r.past.latest))
-
 -- C', which is C over ground 4's hours, where ground 6 asks for it: control, integral, V = max(0, K - N); past; R at least 3; n > 0; else 0
 unfoldable pub compared_past : Inputs → ℕ → PastHours → ℕ
-compared_past i v no_past_hours = 0
-compared_past i v (past_hours hs) =
+compared_past i v None = 0
+compared_past i v (Some hs) =
     cond (leb 3 i.counted && ltb 0 (peaks_in i)) (capacity_sum i.marks (shares v (stretched hs (hours_in i)))) 0
 
 unfoldable pub compared_control : Inputs → Measured → ℕ
@@ -68,20 +59,4 @@ reasons_of s marks =
       counted = i.counted;
       past = past_month s.point;
       compared = kwh (compared_in i);
-    }
-
--- all 0
-abbrev pub no_reasons : Reasons
-no_reasons =
-    record {
-      clause = 0;
-      reading = kwh 0;
-      neighbour = kwh 0;
-      power = record { 0 = 0 };
-      peaks = 0;
-      run = 0;
-      denials = 0;
-      counted = 0;
-      past = no_date;
-      compared = kwh 0;
     }

@@ -10,6 +10,8 @@ use Rattle.record.specs.declared.Past.{Past}
 use Rattle.record.specs.declared.Reading.{Reading}
 use Rattle.record.specs.declared.Readings.{Readings}
 use Rattle.record.specs.declared.Record.{Record}
+use Rattle.record.specs.declared.ReadingOf.{ReadingOf}
+use Rattle.record.specs.declared.ReadingOf.TheVariants.{Billing, Control, First, Second}
 
 -- a flag: 1 for yes
 abbrev pub is_set : ℕ → Bool
@@ -103,3 +105,10 @@ with_first g x = record { billing = g.billing; control = g.control; first = x; s
 
 abbrev pub with_second : Readings → Reading → Readings
 with_second g x = record { billing = g.billing; control = g.control; first = g.first; second = x }
+
+-- the reading of one of the four replaced
+abbrev pub with_reading : Readings → ReadingOf → Reading → Readings
+with_reading g Billing x = with_billing g x
+with_reading g Control x = with_control g x
+with_reading g First x = with_first g x
+with_reading g Second x = with_second g x

@@ -2,19 +2,18 @@
 #![tactic(auto)]
 
 ghost use Rattle.std.specs.Prelude.{◌≡◌};
-ghost use Rattle.record.specs.Record.{no_past, zero_record, fresh_record};
+ghost use Rattle.record.specs.Record.{zero_record, fresh_record};
 
 use calendar::Date;
-use changes::no_readings;
-use contract::{Contract, no_cable};
-use units::{Kw, Kwh};
+use contract::Contract;
+use units::Kwh;
 
 pub mod changes;
 
 // The run of missed months, whether the point is in service, denials of access, and the month of the last fault by its
 // number, 0 for none. A flag is a number, 1 for yes and 0 for no, so that a record of any bits can be judged.
 #[repr(C)]
-#[derive(Clone, Copy)]
+#[derive(Clone, Copy, PartialEq, Eq, Default)]
 pub struct Service {
     pub run: u32,
     pub serving: u32,
@@ -24,7 +23,7 @@ pub struct Service {
 
 // For each calendar month the year that its row holds, 0 for none, and the latest past month by its number, 0 for none.
 #[repr(C)]
-#[derive(Clone, Copy)]
+#[derive(Clone, Copy, PartialEq, Eq, Default)]
 pub struct Past {
     pub years: [u32; 12],
     pub latest: u64,
@@ -32,7 +31,7 @@ pub struct Past {
 
 // Whether a reading is given, 1 or 0, and the volume of an integral or neighbour one, else 0.
 #[repr(C)]
-#[derive(Clone, Copy)]
+#[derive(Clone, Copy, PartialEq, Eq, Default)]
 pub struct Reading {
     pub given: u32,
     pub volume: Kwh,
@@ -40,7 +39,7 @@ pub struct Reading {
 
 // This month's readings: of the billing meter, of the control meter, and of the neighbour's billing and control meters.
 #[repr(C)]
-#[derive(Clone, Copy)]
+#[derive(Clone, Copy, PartialEq, Eq, Default)]
 pub struct Readings {
     pub billing: Reading,
     pub control: Reading,
@@ -48,9 +47,19 @@ pub struct Readings {
     pub second: Reading,
 }
 
+// Whose reading one of a month's is: of the billing meter, of the control meter, and of the neighbour's billing and control
+// meters.
+#[derive(Clone, Copy, PartialEq, Eq)]
+pub enum ReadingOf {
+    Billing,
+    Control,
+    First,
+    Second,
+}
+
 // What a point keeps from call to call, besides the store.
 #[repr(C)]
-#[derive(Clone, Copy)]
+#[derive(Clone, Copy, PartialEq, Eq, Default)]
 pub struct Record {
     pub opened: u32,
     pub contract: Contract,
@@ -61,34 +70,19 @@ pub struct Record {
     pub total: Kwh,
 }
 
-// No row holds a year.
-fn no_past() -> Past
-    ensures { result ≡ no_past }
-{
-    Past {
-        years: [0u32; 12],
-        latest: 0,
-    }
-}
-
 // The record of a point that has just been opened: in service, its month open, all else 0 or missing.
-pub fn fresh_record(c: Contract, d: Date) -> Record
-    ensures { result ≡ fresh_record c d }
+pub fn fresh_record(contract: Contract, date: Date) -> Record
+    ensures { result ≡ fresh_record contract date }
 {
-    let service = Service {
-        run: 0,
-        serving: 1,
-        denials: 0,
-        fault: 0,
-    };
     Record {
         opened: 1,
-        contract: c,
-        date: d,
-        service: service,
-        past: no_past(),
-        readings: no_readings(),
-        total: Kwh(0),
+        contract,
+        date,
+        service: Service {
+            serving: 1,
+            ..Service::default()
+        },
+        ..Record::default()
     }
 }
 
@@ -96,27 +90,5 @@ pub fn fresh_record(c: Contract, d: Date) -> Record
 pub fn zero_record() -> Record
     ensures { result ≡ zero_record }
 {
-    let cable = no_cable();
-    let contract = Contract {
-        billing: 0,
-        control: 0,
-        basis: 0,
-        power: Kw(0),
-        cable: cable,
-    };
-    let service = Service {
-        run: 0,
-        serving: 0,
-        denials: 0,
-        fault: 0,
-    };
-    Record {
-        opened: 0,
-        contract: contract,
-        date: Date { year: 0, month: 0 },
-        service: service,
-        past: no_past(),
-        readings: no_readings(),
-        total: Kwh(0),
-    }
+    Record::default()
 }

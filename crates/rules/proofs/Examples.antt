@@ -15,9 +15,10 @@ use Rattle.marks.specs.Peak.{peak_part}
 use Rattle.contract.specs.declared.Contract.{Contract}
 use Rattle.contract.specs.Contract.{no_cable, power_of}
 use Rattle.rules.specs.declared.Figures.{Figures}
-use Rattle.rules.specs.Rules.{Measured, missing, hourly, whole, unstated, stated, PastHours, no_past_hours, past_hours, Inputs, counted_of, neighbour_of}
+use Rattle.rules.specs.Rules.{Measured, missing, hourly, whole, PastHours, Inputs, counted_of, neighbour_of}
 use Rattle.rules.specs.Rules.{as_read, by_weights, by_peaks, evenly, by_contract, on_past, ground_six, ground_six_in, on_control_past}
 use Rattle.rules.specs.Rules.{on_control, on_billing, rules, figures}
+use Rattle.std.specs.Prelude.{None, Some}
 
 -- R: the run plus 1, and 3 if that is less while denials are 2
 counts :
@@ -28,9 +29,9 @@ counts = (refl, refl, refl, refl, refl, refl, refl)
 
 -- N: the first if given, even at 0, else the second, else 0
 neighbours :
-    (neighbour_of (stated 7) (stated 4) ≡ 7) × (neighbour_of (stated 0) (stated 4) ≡ 0) × (neighbour_of unstated (stated 4) ≡ 4)
-    × (neighbour_of (stated 7) unstated ≡ 7)
-    × (neighbour_of unstated unstated ≡ 0)
+    (neighbour_of (Some 7) (Some 4) ≡ 7) × (neighbour_of (Some 0) (Some 4) ≡ 0) × (neighbour_of None (Some 4) ≡ 4)
+    × (neighbour_of (Some 7) None ≡ 7)
+    × (neighbour_of None None ≡ 0)
 unfolding neighbour_of
 neighbours = (refl, refl, refl, refl, refl)
 
@@ -61,7 +62,7 @@ marked = set (zeros 744) 10 3
 
 -- a past of 5 kWh, all in hour 10
 abbrev pub past : PastHours
-past = past_hours (set (zeros 744) 10 5)
+past = Some (set (zeros 744) 10 5)
 
 -- ground and month volume
 abbrev pub GroundAndVolume : Inputs → ℕ → ℕ → Type 0
@@ -93,7 +94,7 @@ unfolding rule_definitions
 ground_4 = (refl, refl)
 
 ground_5 : GroundAndVolume (january (agreed 1) plain 3 missing (whole 9) 2 past) 5 7
-    × GroundAndVolume (january (agreed 1) plain 1 missing (whole 9) 2 no_past_hours) 5 7
+    × GroundAndVolume (january (agreed 1) plain 1 missing (whole 9) 2 None) 5 7
 unfolding rule_definitions
 ground_5 = ((refl, refl), (refl, refl))
 
@@ -110,7 +111,7 @@ unfolding rule_definitions
 ground_7 = refl
 
 ground_8 : GroundAndVolume (january (agreed 5) plain 3 missing missing 4 past) 8 3720
-    × GroundAndVolume (january (agreed 5) plain 1 missing missing 4 no_past_hours) 8 3720
+    × GroundAndVolume (january (agreed 5) plain 1 missing missing 4 None) 8 3720
 unfolding rule_definitions
 ground_8 = ((refl, refl), (refl, refl))
 

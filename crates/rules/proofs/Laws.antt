@@ -20,10 +20,11 @@ use Rattle.marks.specs.Peak.{peak_rule}
 use Rattle.marks.proofs.Laws.{peaks_most}
 use Rattle.marks.proofs.Rule.{sum_peak_rule, length_peak_rule, peak_rule_most, peak_near, other_near}
 use Rattle.contract.specs.Contract.{power_of}
-use Rattle.rules.specs.Rules.{Measured, missing, hourly, whole, PastHours, no_past_hours, past_hours, Inputs, hours_in, point_power, as_read}
+use Rattle.rules.specs.Rules.{Measured, missing, hourly, whole, PastHours, Inputs, hours_in, point_power, as_read}
 use Rattle.rules.specs.Rules.{by_weights, by_peaks, evenly, by_contract, on_past, ground_six_in, on_control_past, on_control, on_billing, rules}
 use Rattle.rules.specs.Rules.{becomes_past, is_missed}
 use Rattle.rules.specs.Right.{Right, MeasuredFits, PastHoursFit, InputsFit}
+use Rattle.std.specs.Prelude.{None, Some}
 
 -- the sum of a month's hours of at most k each
 sum_hours : (hs : List ℕ) (k : ℕ) → none_above k hs ≡ true → sum hs ≤ k * length hs
@@ -131,8 +132,8 @@ module _ (i : Inputs) (fit : InputsFit i) where
   -- GROUND 7, else 8 and 9
   on_past_lem : (p : PastHours) → PastHoursFit p → Right (hours_in i) (on_past i p)
   unfolding on_past
-  on_past_lem no_past_hours f = by_contract_lem
-  on_past_lem (past_hours hs) f =
+  on_past_lem None f = by_contract_lem
+  on_past_lem (Some hs) f =
       by_cases (leb i.counted 2)
       (λ t. rw t (as_read_lem 7 3000000 (hours_in i) (stretched hs (hours_in i)) (past_long hs) short_month (lit≤ tt) (past_small hs f)))
       (λ g. rw g by_contract_lem)
@@ -140,8 +141,8 @@ module _ (i : Inputs) (fit : InputsFit i) where
   -- GROUNDS 4 TO 6
   on_control_past_lem : (v : ℕ) (p : PastHours) → v ≤ hours_in i * 1000000 → Right (hours_in i) (on_control_past i v p)
   unfolding on_control_past
-  on_control_past_lem v no_past_hours l = by_peaks_lem 5 v l
-  on_control_past_lem v (past_hours hs) l =
+  on_control_past_lem v None l = by_peaks_lem 5 v l
+  on_control_past_lem v (Some hs) l =
       let most : v ≤ greatest_month_volume = omega (arith, short_month) in
       by_cases (leb i.counted 2)
       (λ t. rw t (by_weights_lem 4 v (hours_in i) (stretched hs (hours_in i)) refl (past_long hs) long_month most))
@@ -177,13 +178,13 @@ contract_late i = by_cases (eqb i.contract.basis 3) (λ t. rw t) (λ f. rw f)
 
 past_late : (i : Inputs) (p : PastHours) → becomes_past (on_past i p) ≡ false
 unfolding becomes_past on_past as_read
-past_late i no_past_hours = contract_late i
-past_late i (past_hours hs) = by_cases (leb i.counted 2) (λ t. rw t) (λ f. rw f (contract_late i))
+past_late i None = contract_late i
+past_late i (Some hs) = by_cases (leb i.counted 2) (λ t. rw t) (λ f. rw f (contract_late i))
 
 control_past_late : (i : Inputs) (v : ℕ) (p : PastHours) → becomes_past (on_control_past i v p) ≡ false
 unfolding becomes_past on_control_past by_weights by_peaks
-control_past_late i v no_past_hours = refl
-control_past_late i v (past_hours hs) =
+control_past_late i v None = refl
+control_past_late i v (Some hs) =
     by_cases (leb i.counted 2) (λ t. rw t)
     (λ f. rw f (by_cases (ground_six_in i v (shares v (stretched hs (hours_in i)))) (λ t. rw t) (λ g. rw g)))
 

@@ -1,3 +1,4 @@
 pub mod Calls
+pub mod Grounds
 pub mod Rules
 pub mod Right

@@ -4,7 +4,8 @@ use Rattle.numbers.specs.Lists.{sum, at, none_above}
 use Rattle.units.specs.Volumes.{greatest_month_volume}
 use Rattle.power.specs.Power.{cable_fits}
 use Rattle.marks.specs.Marks.{crowded}
-use Rattle.rules.specs.Rules.{Measured, missing, hourly, whole, PastHours, no_past_hours, past_hours, Inputs, Share, Outcome, hours_in, becomes_past}
+use Rattle.rules.specs.Rules.{Measured, missing, hourly, whole, PastHours, Inputs, Share, Outcome, hours_in, becomes_past}
+use Rattle.std.specs.Prelude.{None, Some}
 
 -- an hour is less than one kWh from its exact share
 pub record NearShare (x : ℕ) (q : Share) : Type 0 where
@@ -32,8 +33,8 @@ MeasuredFits t (hourly hs) = HoursFit t hs
 MeasuredFits t (whole v) = v ≤ t * 1000000
 
 abbrev pub PastHoursFit : PastHours → Type 0
-PastHoursFit no_past_hours = Unit {0}
-PastHoursFit (past_hours hs) = none_above 3000000 hs ≡ true
+PastHoursFit None = Unit {0}
+PastHoursFit (Some hs) = none_above 3000000 hs ≡ true
 
 -- what a point that is closed brings: marks of whole days that pass 42, a power and readings within their limits
 pub record InputsFit (i : Inputs) : Type 0 where

@@ -1,6 +1,6 @@
 -- The rules under Closing (document 01): from what counts at a closing to its ground, hours, exact shares, month volume and figures.
 -- Who asks says where the inputs come from: a point takes them from its record and store, the book looks back for them.
-use Rattle.std.specs.Prelude.{ℕ, ◌+◌, ◌-◌, ◌*◌, ◌/◌, Bool, true, false, cond, ◌&&◌, ◌||◌, List, length, eqb, leb, ltb}
+use Rattle.std.specs.Prelude.{ℕ, Option, None, Some, ◌+◌, ◌-◌, ◌*◌, ◌/◌, Bool, true, false, cond, ◌&&◌, ◌||◌, List, length, eqb, leb, ltb}
 use Rattle.numbers.specs.Lists.{sum_to, sum, at}
 use Rattle.calendar.specs.declared.Date.{Date}
 use Rattle.calendar.specs.Calendar.{open_hours}
@@ -19,14 +19,12 @@ pub data Measured : Type 0 where
   whole : ℕ → Measured
 
 -- a neighbour reading of the month: none, or its volume
-pub data Stated : Type 0 where
-  unstated : Stated
-  stated : ℕ → Stated
+abbrev pub Stated : Type 0
+Stated = Option ℕ
 
 -- the past: none, or its hours
-pub data PastHours : Type 0 where
-  no_past_hours : PastHours
-  past_hours : List ℕ → PastHours
+abbrev pub PastHours : Type 0
+PastHours = Option (List ℕ)
 
 -- what counts at a closing
 pub record Inputs : Type 0 where
@@ -66,9 +64,9 @@ counted_of run denials = cond (eqb denials 2 && ltb (run + 1) 3) 3 (run + 1)
 
 -- N is the first neighbour reading if given, else the second, else 0
 unfoldable pub neighbour_of : Stated → Stated → ℕ
-neighbour_of (stated v) second = v
-neighbour_of unstated (stated v) = v
-neighbour_of unstated unstated = 0
+neighbour_of (Some v) second = v
+neighbour_of None (Some v) = v
+neighbour_of None None = 0
 
 -- T, n and P at a closing, and d of its marks
 abbrev pub hours_in : Inputs → ℕ
@@ -120,8 +118,8 @@ by_contract i =
 
 -- GROUND 7: no control reading; R at most 2; past: those of the past
 unfoldable pub on_past : Inputs → PastHours → Outcome
-on_past i no_past_hours = by_contract i
-on_past i (past_hours hs) = cond (leb i.counted 2) (as_read 7 (stretched hs (hours_in i))) (by_contract i)
+on_past i None = by_contract i
+on_past i (Some hs) = cond (leb i.counted 2) (as_read 7 (stretched hs (hours_in i))) (by_contract i)
 
 -- the test of ground 6: n > 0, and A × d < n × C', so that A / n is below C' / d
 abbrev pub ground_six : ℕ → ℕ → ℕ → ℕ → Bool
@@ -134,8 +132,8 @@ ground_six_in i v hs =
 
 -- GROUNDS 4 TO 6: control, integral, V. R at most 2 and past: shared by the past; R at least 3, past and the test: the same; otherwise the peak rule
 unfoldable pub on_control_past : Inputs → ℕ → PastHours → Outcome
-on_control_past i v no_past_hours = by_peaks 5 i v
-on_control_past i v (past_hours hs) =
+on_control_past i v None = by_peaks 5 i v
+on_control_past i v (Some hs) =
     let past : List ℕ = stretched hs (hours_in i) in
     cond (leb i.counted 2) (by_weights 4 v past) (cond (ground_six_in i v (shares v past)) (by_weights 6 v past) (by_peaks 5 i v))
 

@@ -1,85 +1,155 @@
-// What is written of the files of a command, and when.
-use super::options::Options;
-use line_player::{Progress, one_more};
+// The files of a command, played one after the other.
+use super::input::{History, Step};
+use super::options::{ARGUMENT_ROOM, Options, argument, is_option};
+use line_player::Player;
 use record::zero_record;
-use sheets::answers::{Counts, put_bad_line};
-use sheets::records::put_record;
-use std::io;
-use text::put;
+use sheets::answers::{Answers, Counts, Form};
+use std::env::Env;
+use std::fs::Files;
+use std::io::{Input, Read};
+use std::{fs, io, str};
+use text::Buffer;
 
-// Nothing is played.
-pub fn fresh_progress() -> Progress {
-    let counts = Counts {
-        accepted: 0,
-        refused: 0,
-        errors: 0,
-    };
-    Progress {
-        record: zero_record(),
-        counts: counts,
-        file: 0,
-        line: 0,
-        length: 0,
-        long: false,
-        at: 0,
+// Room for answers that are not yet written out.
+const ANSWERS_ROOM: usize = 65536;
+
+// Writes out answers.
+pub fn write_out<const N: usize>(rt: &impl Print, answers: &mut Buffer<N>) -> io::Result<()> {
+    rt.write_all(answers.as_slice())?;
+    answers.clear();
+    Ok(())
+}
+
+// Writes out answers where they take more than half of their room, which is more than any line is answered with.
+pub fn write_half<const N: usize>(rt: &impl Print, answers: &mut Buffer<N>) -> io::Result<()> {
+    if answers.len() <= N / 2 {
+        return Ok(());
+    }
+    write_out(rt, answers)
+}
+
+// A command that plays: its options, how many files it has begun, and what plays them.
+#[derive(Drop)]
+pub struct Session {
+    options: Options,
+    file: u64,
+    player: Player<ANSWERS_ROOM>,
+}
+
+impl Session {
+    // Nothing is played.
+    pub fn new(options: Options) -> Session {
+        Session {
+            options,
+            file: 0,
+            player: Player {
+                record: zero_record(),
+                counts: Counts::default(),
+                line: 0,
+                answers: Answers {
+                    layout: options.layout,
+                    text: Buffer::new(),
+                },
+            },
+        }
+    }
+
+    // A file begins: its history has no point open, and its lines are counted anew. Its name stands above its answers where
+    // there are several; for programs there is a record of it.
+    fn start_file(&mut self, name: &[u8]) {
+        self.file = self.file.saturating_add(1);
+        self.player.record = zero_record();
+        self.player.line = 0;
+        let answers = &mut self.player.answers;
+        match answers.layout.form {
+            Form::Programs => answers.put_record(b"file", &[self.file]),
+            Form::People if self.options.files < 2 => (),
+            Form::People => {
+                answers.text.put(name);
+                answers.text.put(b":\n");
+            }
+        }
+    }
+
+    // A file that cannot be read: for people by its name, for programs an error without a line.
+    fn no_file(&mut self, name: &[u8]) {
+        let counts = &mut self.player.counts;
+        counts.errors = counts.errors.saturating_add(1);
+        let answers = &mut self.player.answers;
+        match answers.layout.form {
+            Form::Programs => answers.put_record(b"error", &[0, 0, 0]),
+            Form::People => {
+                answers.text.put(name);
+                answers.text.put(b": cannot be read\n");
+            }
+        }
+    }
+
+    // Plays a file that is open, as a history of its own.
+    fn play_open<R: Read>(&mut self, rt: &impl Print, name: &[u8], file: &mut R) -> io::Result<()> {
+        let step = History::new().play(rt, &mut self.player, file)?;
+        if step == Step::Failed {
+            self.no_file(name);
+        }
+        Ok(())
+    }
+
+    // Plays the file of a name, or standard input for the name -.
+    fn play_name(&mut self, rt: &(impl Files + Input + Print), name: &[u8]) -> io::Result<()> {
+        self.start_file(name);
+        if let b"-" = name {
+            return self.play_open(rt, name, &mut rt.reader());
+        }
+        match open_name(rt, name) {
+            Some(mut file) => self.play_open(rt, name, &mut file),
+            None => {
+                self.no_file(name);
+                Ok(())
+            }
+        }
+    }
+
+    // Plays argument i of the command where it is a file, and says whether there is such an argument.
+    fn play_argument(
+        &mut self,
+        rt: &(impl Env + Files + Input + Print),
+        i: usize,
+    ) -> io::Result<bool> {
+        let mut name = [0; ARGUMENT_ROOM];
+        let Some(name) = argument(rt, i, &mut name) else {
+            return Ok(false);
+        };
+        if !is_option(name) {
+            self.play_name(rt, name)?;
+            write_half(rt, &mut self.player.answers.text)?;
+        }
+        Ok(true)
+    }
+
+    // Plays the files of the command, one after the other.
+    fn play_files(&mut self, rt: &(impl Env + Files + Input + Print)) -> io::Result<()> {
+        for i in 1..usize::MAX {
+            if !self.play_argument(rt, i)? {
+                return Ok(());
+            }
+        }
+        Ok(())
+    }
+
+    // Plays the files of the command, or standard input where it names none, sums up, and writes what is left.
+    pub fn play(&mut self, rt: &(impl Env + Files + Input + Print)) -> io::Result<()> {
+        if self.options.files == 0 {
+            self.play_name(rt, b"-")?;
+        } else {
+            self.play_files(rt)?;
+        }
+        self.player.answers.put_end(self.player.counts);
+        write_out(rt, &mut self.player.answers.text)
     }
 }
 
-// Writes out what stands in the buffer where it is half full, or where all of it is due.
-pub fn flush(rt: &impl Print, p: Progress, out: &[u8], all: bool) -> io::Result<Progress> {
-    let due = all | (32768 < p.at);
-    if !due {
-        return Ok(p);
-    }
-    let n = p.at;
-    if n <= out.len() {
-        rt.write_all(&out[..n])?;
-    }
-    let mut r = p;
-    r.at = 0;
-    Ok(r)
-}
-
-// A file begins: its history has no point open, and its lines are counted anew. Its name stands above its answers where
-// there are several.
-pub fn start_file(name: &[u8], o: Options, p: Progress, out: &mut [u8]) -> Progress {
-    let file = one_more(p.file);
-    let mut r = fresh_progress();
-    let counts = p.counts;
-    r.counts = counts;
-    r.file = file;
-    let at = put_file(name, o, out, p.at, file);
-    r.at = at;
-    r
-}
-
-// The record of a file, or its name.
-fn put_file(name: &[u8], o: Options, out: &mut [u8], place: usize, file: u64) -> usize {
-    if o.layout.tab {
-        return put_record(out, place, b"file", &[file]);
-    }
-    if o.files < 2 {
-        return place;
-    }
-    let at = put(out, place, name);
-    put(out, at, b":\n")
-}
-
-// A file that cannot be read: for people by its name, for programs an error without a line.
-pub fn no_file(name: &[u8], o: Options, p: Progress, out: &mut [u8]) -> Progress {
-    let at = put_no_file(name, o, p.at, out);
-    let errors = one_more(p.counts.errors);
-    let mut r = p;
-    r.at = at;
-    r.counts.errors = errors;
-    r
-}
-
-// What is written of it.
-fn put_no_file(name: &[u8], o: Options, place: usize, out: &mut [u8]) -> usize {
-    if o.layout.tab {
-        return put_bad_line(out, place, true, 0, 0, 0);
-    }
-    let at = put(out, place, name);
-    put(out, at, b": cannot be read\n")
+// Opens the file of a name, where it can be read. A name that is no UTF-8 text opens nothing.
+fn open_name<R: Files>(rt: &R, name: &[u8]) -> Option<R::File> {
+    let text = str::from_utf8(name).ok()?;
+    fs::open(rt, text).ok()
 }

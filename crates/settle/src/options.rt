@@ -1,116 +1,96 @@
 // The options of the command.
-ghost use Rattle.std.specs.Prelude.{◌≡◌, ◌≤◌, ◌↔◌, length, IfSome, IsTrue};
+ghost use Rattle.std.specs.Prelude.{◌≤◌, length, IfSome};
 
-use line_player::Layout;
+use sheets::answers::{Form, Layout};
 use std::env::{Env, FillError};
 use std::io;
 
 // Room for an argument of the command, which holds any path.
 pub const ARGUMENT_ROOM: usize = 4096;
 
-// Whether help is printed, which argument is an option that is not known, 0 for none, how the answers are written, and how
-// many files there are.
+// What the command does: it plays, or it prints what it can be asked, and first which of its arguments is an option that is
+// not known.
+#[derive(Clone, Copy)]
+pub enum Task {
+    Play,
+    Help,
+    Unknown(usize),
+}
+
+// What the command does, how its answers are written, and how many files it names.
 #[derive(Clone, Copy)]
 pub struct Options {
-    pub help: bool,
-    pub unknown: usize,
+    pub task: Task,
     pub layout: Layout,
     pub files: usize,
 }
 
-// Whether two texts are the same.
-fn same(a: &[u8], b: &[u8]) -> bool
-    ensures { IsTrue result ↔ (a.now ≡ b.now) }
-{
-    a == b
-}
-
-// Puts argument i of the command at the start of a buffer, and says how long it is; none behind the last. One that the
-// buffer cannot hold is empty.
-pub fn argument(rt: &impl Env, i: usize, word: &mut [u8]) -> Option<usize>
-    ensures { IfSome result (λ n. n ≤ length word.new) }
+// Argument i of the command, in a buffer that is lent for it; none behind the last. One that the buffer cannot hold is
+// empty.
+pub fn argument<'a>(rt: &impl Env, i: usize, word: &'a mut [u8]) -> Option<&'a [u8]>
+    ensures { IfSome result (λ a. length a.now ≤ length word.old) }
 {
     match rt.arg(i, word) {
-        Ok(n) => Some(n),
-        Err(FillError::TooLong) => Some(0),
+        Ok(n) => Some(&word[..n]),
+        Err(FillError::TooLong) => Some(&word[..0]),
         Err(FillError::NotPresent) => None,
     }
 }
 
-// Whether an argument is an option: it starts with a dash.
+// Whether an argument is an option: a dash and more.
 pub fn is_option(word: &[u8]) -> bool {
-    if word.len() < 2 {
-        return false;
-    }
-    word[0] == 45
+    matches!(word, [b'-', _, ..])
 }
 
-// The options with one argument more.
-fn with_argument(o: Options, word: &[u8], i: usize) -> Options {
-    let mut r = o;
-    if !is_option(word) {
-        if o.files < 1000000000 {
-            r.files = o.files + 1;
+impl Options {
+    // One argument more, the i-th of the command.
+    fn add(&mut self, word: &[u8], i: usize) {
+        match word {
+            b"--tab" => self.layout.form = Form::Programs,
+            b"--hours" => self.layout.hours = true,
+            b"--help" => {
+                if let Task::Play = self.task {
+                    self.task = Task::Help;
+                }
+            }
+            _ if is_option(word) => self.task = Task::Unknown(i),
+            _ => self.files = self.files.saturating_add(1),
         }
-        return r;
     }
-    if same(word, b"--tab") {
-        r.layout.tab = true;
-        return r;
-    }
-    if same(word, b"--hours") {
-        r.layout.table = true;
-        return r;
-    }
-    r.help = true;
-    if !same(word, b"--help") {
-        r.unknown = i;
-    }
-    r
-}
-
-// The options with argument i of the command, or none behind the last.
-fn with_place(rt: &impl Env, o: Options, i: usize) -> Option<Options> {
-    let mut word = [0; ARGUMENT_ROOM];
-    let n = argument(rt, i, &mut word)?;
-    Some(with_argument(o, &word[..n], i))
 }
 
 // The options of the command, wherever they stand.
 pub fn find_options(rt: &impl Env) -> Options {
-    let layout = Layout {
-        tab: false,
-        table: false,
-    };
     let mut o = Options {
-        help: false,
-        unknown: 0,
-        layout: layout,
+        task: Task::Play,
+        layout: Layout {
+            form: Form::People,
+            hours: false,
+        },
         files: 0,
     };
     for i in 1..usize::MAX {
-        let Some(more) = with_place(rt, o, i) else {
-            return o;
+        let mut word = [0; ARGUMENT_ROOM];
+        let Some(word) = argument(rt, i, &mut word) else {
+            break;
         };
-        o = more;
+        o.add(word, i);
     }
     o
 }
 
 // Which option is not known.
-fn print_unknown(rt: &(impl Env + Print), i: usize) -> io::Result<()> {
+pub fn print_unknown(rt: &(impl Env + Print), i: usize) -> io::Result<()> {
     let mut word = [0; ARGUMENT_ROOM];
-    let n = argument(rt, i, &mut word).unwrap_or(0);
     rt.write_all(b"unknown option: ")?;
-    rt.write_all(&word[..n])?;
+    if let Some(word) = argument(rt, i, &mut word) {
+        rt.write_all(word)?;
+    }
     rt.write_all(b"\n\n")
 }
 
 // What the command can be asked.
-pub fn print_help(rt: &(impl Env + Print), o: Options) -> io::Result<()> {
-    if o.unknown != 0 {
-        print_unknown(rt, o.unknown)?;
-    }
+pub fn print_help(rt: &impl Print) -> io::Result<()> {
     rt.write_all(
         b"settle [--hours] [--tab] [FILE ..]\n\n\
         Plays histories of a delivery point, one call a line, and prints what each call answers: accepted,\n\

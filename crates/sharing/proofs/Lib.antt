@@ -1,6 +1,6 @@
 pub mod Laws
 pub mod Rule
 pub mod Even
-pub mod Under
+pub mod Turns
 pub mod Placing
 pub mod Examples

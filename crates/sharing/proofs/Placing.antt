@@ -10,7 +10,7 @@ use lib.ListN.{length}
 use Rattle.numbers.specs.Lists.{sum_to, at}
 use Rattle.numbers.proofs.Laws.{cond_most, sum_up}
 use Rattle.sharing.specs.Shares.{portion, taken, shares_over, shares, every}
-use Rattle.sharing.specs.Underway.{QuotientFits, Placed}
+use Rattle.sharing.specs.Limits.{QuotientFits, Placed}
 use Rattle.sharing.proofs.Laws.{portion_up, at_spread}
 use Rattle.sharing.proofs.Rule.{taken_every, taken_some}
 

@@ -14,7 +14,7 @@ use Rattle.numbers.proofs.Laws.{sum_tab, sum_same, sum_ones, sum_both, tab_same,
 use Rattle.units.specs.Volumes.{greatest_volume_read}
 use Rattle.sharing.specs.Shares.{one, others, within, or_weights, taken, share, spread, shares_over, apart_at, shares_apart, shares, every}
 use Rattle.sharing.specs.Shares.{past_at, month_fits, weights_fit, share_in, Shared}
-use Rattle.sharing.specs.Underway.{MonthFits}
+use Rattle.sharing.specs.Limits.{MonthFits}
 use Rattle.sharing.proofs.Laws.{Near, sum_spread, sum_share, near_share, share_whole, length_spread, at_spread, share_same, spread_same}
 
 -- of two kinds of weights, the sum is that of the kind that counts
@@ -66,6 +66,10 @@ module _ (v : ℕ) (chosen : ℕ → Bool) (ws : List ℕ) where
         rw (at_spread v (length ws) (taken (length ws) chosen (at ws)) h l)
         (near_share v (length ws) (taken (length ws) chosen (at ws)) (taken_some (length ws) chosen (at ws) some) h)
 
+-- law: outside the list there is no share
+pub shares_outside : (v : ℕ) (ws : List ℕ) (place : ℕ) → length ws ≤ place → at (shares v ws) place ≡ 0
+shares_outside v ws place l = get_or-eq_default (shares v ws) 0 {n = place} (rw length_shares l)
+
 -- law: no place gets more than what is shared
 pub shares_most : (v : ℕ) (ws : List ℕ) (place : ℕ) → at (shares v ws) place ≤ v
 unfolding shares_over
@@ -74,7 +78,7 @@ shares_most v ws place =
     let w : ℕ → ℕ = taken n every (at ws) in
     elim (dec_lt place n) [
       | yes l ↦ rw (at_spread v n w place l) (share_whole v n w (taken_some n every (at ws) (omega arith)) place l)
-      | no f ↦ rw (get_or-eq_default (shares v ws) 0 {n = place} (rw length_shares (omega arith))) (omega arith)
+      | no f ↦ rw (shares_outside v ws place (omega arith)) (omega arith)
     ]
 
 pub share_in_most : (v : ℕ) (ws : List ℕ) (place : ℕ) → share_in v ws place ≤ v

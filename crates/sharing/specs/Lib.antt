@@ -1,2 +1,3 @@
 pub mod Shares
-pub mod Underway
+pub mod Limits
+pub mod Taken

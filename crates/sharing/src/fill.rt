@@ -1,81 +1,42 @@
 // The loops that fill a buffer with shares.
-ghost use Rattle.std.specs.Prelude.{◌≤◌, length};
-ghost use Rattle.numbers.specs.Lists.{Filled};
-ghost use Rattle.sharing.specs.Shares.{one, taken, share, apart_at, past_at, chosen_at, other_at};
-ghost use Rattle.sharing.specs.Underway.{Underway, Counts, Others, Totals};
+ghost use Rattle.std.specs.Prelude.{◌≡◌, ◌+◌, ◌≤◌, length};
+ghost use Rattle.numbers.specs.Lists.{padded};
+ghost use Rattle.units.specs.Volumes.{greatest_month_volume};
+ghost use Rattle.sharing.specs.Shares.{shares_over, shares_apart, stretched, chosen_at};
+ghost use Rattle.sharing.specs.Limits.{MonthFits};
+ghost use Rattle.sharing.specs.Taken.{hour_count};
 
-use super::progress::{Progress, gain, step};
-use super::weights::{weight_by_past, weight_chosen, weight_other};
+use super::progress::Progress;
+use super::weights::{Weights, count, even_weight, even_whole};
 
-// The hours of a sharing by the past that has not begun.
-pub(crate) fn fill_by_past(
-    s: u64,
-    k: u64,
-    p: Progress,
-    past: &[u32],
-    chosen: &[bool],
-    hours: &mut [u32],
-)
-    requires totals { Totals past.now chosen.now s k }
-    requires underway { Underway p.volume (length chosen.now) (taken (length chosen.now) (chosen_at chosen.now) (past_at past.now)) p 0 }
-    requires chosen_in_bounds { length chosen.now ≤ length hours.old }
-    ensures { Filled
-        (share p.volume (length chosen.now) (taken (length chosen.now) (chosen_at chosen.now) (past_at past.now)))
-        hours.old hours.new (length chosen.now) }
+// A sharing by weights whose numbers fit. It is inlined, so that the weights stand in registers and the loop is made for each kind of them.
+#[inline(always)]
+pub(crate) fn fill(v: u64, weights: &Weights, hours: &mut [u32])
+    requires month_fits { MonthFits v (hour_count weights.now) (length hours.old) }
+    requires weights_fit { weights.now.sum ≤ greatest_month_volume }
+    ensures { hours.new
+        ≡ padded (length hours.old) (shares_over v (chosen_at weights.now.chosen.now) (stretched weights.now.past.now (hour_count weights.now))) }
 {
-    let mut at = p;
-    let mut h = 0;
-    while h < chosen.len() {
-        let next = step(at, weight_by_past(s, k, past, chosen, h));
-        hours[h] = gain(at, next);
-        at = next;
-        h += 1;
+    hours.fill(0);
+    let mut sharing = Progress::start(v, weights.whole());
+    for h in 0..weights.chosen.len() {
+        hours[h] = sharing.share(weights.at(h));
     }
 }
 
-// The hours of an even sharing that has not begun.
-pub(crate) fn fill_evenly(k: u64, p: Progress, chosen: &[bool], hours: &mut [u32])
-    requires counts { Counts chosen.now k }
-    requires underway { Underway p.volume (length chosen.now) (taken (length chosen.now) (chosen_at chosen.now) one) p 0 }
-    requires chosen_in_bounds { length chosen.now ≤ length hours.old }
-    ensures { Filled (share p.volume (length chosen.now) (taken (length chosen.now) (chosen_at chosen.now) one))
-        hours.old hours.new (length chosen.now) }
+// Two even sharings whose numbers fit: the first over the chosen hours, the second over the others.
+pub(crate) fn fill_apart(a: u64, b: u64, chosen: &[bool], hours: &mut [u32])
+    requires { MonthFits (a + b) (length chosen.now) (length hours.old) }
+    ensures { hours.new ≡ padded (length hours.old) (shares_apart a b (chosen_at chosen.now) (length chosen.now)) }
 {
-    let mut at = p;
-    let mut h = 0;
-    while h < chosen.len() {
-        let next = step(at, weight_chosen(k, chosen, h));
-        hours[h] = gain(at, next);
-        at = next;
-        h += 1;
-    }
-}
-
-// The hours of two even sharings that have not begun: one over the chosen hours, of which there are k, one over the m others.
-pub(crate) fn fill_apart(
-    k: u64,
-    m: u64,
-    p: Progress,
-    q: Progress,
-    chosen: &[bool],
-    hours: &mut [u32],
-)
-    requires counts { Counts chosen.now k × Others chosen.now m }
-    requires underway { Underway p.volume (length chosen.now) (taken (length chosen.now) (chosen_at chosen.now) one) p 0 }
-    requires underway_2 { Underway q.volume (length chosen.now) (taken (length chosen.now) (other_at chosen.now) one) q 0 }
-    requires chosen_len_bound { (length chosen.now ≤ 744) × (length chosen.now ≤ length hours.old) }
-    ensures { Filled (apart_at p.volume q.volume (chosen_at chosen.now) (length chosen.now))
-        hours.old hours.new (length chosen.now) }
-{
-    let mut a = p;
-    let mut b = q;
-    let mut h = 0;
-    while h < chosen.len() {
-        let a1 = step(a, weight_chosen(k, chosen, h));
-        let b1 = step(b, weight_other(m, chosen, h));
-        hours[h] = gain(a, a1) + gain(b, b1);
-        a = a1;
-        b = b1;
-        h += 1;
+    let n = chosen.len() as u64;
+    let k = count(chosen);
+    let m = n - k;
+    let mut first = Progress::start(a, even_whole(k, n));
+    let mut second = Progress::start(b, even_whole(m, n));
+    hours.fill(0);
+    for (h, is_chosen) in chosen.iter().enumerate() {
+        hours[h] = first.share(even_weight(k, *is_chosen))
+            + second.share(even_weight(m, !*is_chosen));
     }
 }

@@ -2,17 +2,21 @@
 ghost use Rattle.std.specs.Prelude.{◌≡◌, cond, ◌≤◌, eqb};
 ghost use Rattle.numbers.specs.Lists.{sum_to, at};
 ghost use Rattle.sharing.specs.Shares.{shares};
-ghost use Rattle.sharing.specs.Underway.{Placed};
+ghost use Rattle.sharing.specs.Limits.{Placed};
 
 use super::progress::portion_of;
-use numbers::{pick_wide, sum_first};
+use numbers::sum_first;
 
 // The sum of the first n weights as they are taken over all places, where all of them sum to s.
 fn taken_first(s: u64, weights: &[u32], n: usize) -> u64
     requires { n ≤ 744 }
     ensures { result ≡ cond (eqb s 0) n (sum_to (at weights.now) n) }
 {
-    pick_wide(s == 0, n as u64, sum_first(weights, n))
+    if s == 0 {
+        n as u64
+    } else {
+        sum_first(weights, n)
+    }
 }
 
 // The share of one place where the numbers fit.

@@ -1,15 +1,18 @@
 // A sharing under way, from hour to hour.
-ghost use Rattle.std.specs.Prelude.{◌≡◌};
+ghost use Rattle.std.specs.Prelude.{◌≡◌, ◌+◌, ◌-◌, ◌≤◌};
+ghost use Rattle.units.specs.Volumes.{greatest_volume_read};
 ghost use Rattle.sharing.specs.Shares.{portion};
-ghost use Rattle.sharing.specs.Underway.{started, stepped, QuotientFits, Ready, Gains, Gained};
+ghost use Rattle.sharing.specs.Limits.{QuotientFits};
 
 // A sharing under way: the volume V, the sum S of all weights, and of both what the hours so far have.
 #[derive(Clone, Copy)]
-pub struct Progress {
+pub(crate) struct Progress {
     pub volume: u64,
     pub whole: u64,
     pub passed: u64,
     pub done: u64,
+    pub ghost fits: { QuotientFits volume passed whole },
+    pub ghost is: { done ≡ portion volume passed whole },
 }
 
 // The quotient of the rule: what of v falls to weights of a out of s.
@@ -21,40 +24,39 @@ pub(crate) fn portion_of(v: u64, a: u64, s: u64) -> u64
     v * a / s
 }
 
-// A sharing before its first hour, by weights that sum to s.
-pub(crate) fn start(v: u64, s: u64) -> Progress
-    ensures { result ≡ started v s }
-{
-    Progress {
-        volume: v,
-        whole: s,
-        passed: 0,
-        done: 0,
+impl Progress {
+    // A sharing before its first hour, by weights that sum to s.
+    #[tactic(auto, using(crate::proofs::Laws::portion_none))]
+    pub(crate) fn start(volume: u64, whole: u64) -> Self
+        requires { QuotientFits volume 0 whole }
+        ensures volume { result.volume ≡ volume }
+        ensures whole { result.whole ≡ whole }
+        ensures passed { result.passed ≡ 0 }
+    {
+        Progress {
+            volume,
+            whole,
+            passed: 0,
+            done: 0,
+        }
     }
-}
 
-// One hour on, of weight w. An hour of weight 0 needs no division.
-pub(crate) fn step(p: Progress, w: u64) -> Progress
-    requires { Ready p w }
-    ensures { result ≡ stepped p w }
-{
-    if w == 0 {
-        return p;
+    // One hour on, of weight w: what the hour gets. An hour of weight 0 needs no division.
+    #[tactic(auto, using(crate::proofs::Laws::portion_up, crate::proofs::Laws::portion_most))]
+    pub(crate) fn share(&mut self, w: u64) -> u32
+        requires { self.old.passed + w ≤ self.old.whole }
+        ensures volume { self.new.volume ≡ self.old.volume }
+        ensures whole { self.new.whole ≡ self.old.whole }
+        ensures passed { self.new.passed ≡ self.old.passed + w }
+        ensures gets { result
+            ≡ portion self.old.volume (self.old.passed + w) self.old.whole - portion self.old.volume self.old.passed self.old.whole }
+        ensures small { result ≤ greatest_volume_read }
+    {
+        let before = self.done;
+        if w != 0 {
+            self.passed += w;
+            self.done = portion_of(self.volume, self.passed, self.whole);
+        }
+        (self.done - before) as u32
     }
-    let passed = p.passed + w;
-    let done = portion_of(p.volume, passed, p.whole);
-    Progress {
-        volume: p.volume,
-        whole: p.whole,
-        passed,
-        done,
-    }
-}
-
-// What an hour gets, between the sharing before it and after it.
-pub(crate) fn gain(p: Progress, q: Progress) -> u32
-    requires { Gains p q }
-    ensures { Gained p q result }
-{
-    (q.done - p.done) as u32
 }

@@ -1,87 +1,71 @@
-// The hours of a month as a chart of its days and as a table.
-use super::forms::put_form;
-use charts::{day_sum, hour_of, larger, largest_day, reaches};
-use numbers::{pick, wide};
-use text::{put, put_right};
+// The days of a month as a chart, and their hours as a table.
+use charts::{day_sum, hour_of, largest_day, reaches};
+use std::fmt;
 
-// A mark of the chart.
-fn put_bar(out: &mut [u8], at: usize, full: bool) -> usize {
-    if full {
-        return put(out, at, b"#");
+// The hours of a month, and how many days it has.
+#[derive(Clone, Copy)]
+pub struct Days<'a> {
+    pub hours: &'a [u32],
+    pub count: usize,
+}
+
+impl Days<'_> {
+    // The days as bars of five rows.
+    pub fn write_chart<W: fmt::Write>(&self, f: &mut fmt::Formatter<W>) -> fmt::Result {
+        let most = largest_day(self.hours, self.count);
+        writeln!(f, "    days      the largest has {most} kWh")?;
+        for row in (0..5).rev() {
+            self.write_row(f, most, row)?;
+        }
+        writeln!(f, "               1   5    10   15   20   25   30")
     }
-    put(out, at, b" ")
-}
 
-// A row of the chart, from its frame on.
-fn put_row(out: &mut [u8], place: usize, hours: &[u32], days: usize, most: u64, row: u64) -> usize {
-    let mut at = put(out, place, b"              |");
-    for day in 0..days {
-        at = put_bar(out, at, reaches(day_sum(hours, day), most, row));
+    // A row of the chart, counted from 0 at the bottom.
+    fn write_row<W: fmt::Write>(
+        &self,
+        f: &mut fmt::Formatter<W>,
+        most: u64,
+        row: u64,
+    ) -> fmt::Result {
+        write!(f, "              |")?;
+        for day in 0..self.count {
+            let full = reaches(day_sum(self.hours, day), most, row);
+            let mark = if full { "#" } else { " " };
+            write!(f, "{mark}")?;
+        }
+        writeln!(f)
     }
-    put(out, at, b"\n")
-}
 
-// The rows of the chart.
-fn put_rows(out: &mut [u8], at: usize, hours: &[u32], days: usize, most: u64) -> usize {
-    let at = put_row(out, at, hours, days, most, 4);
-    let at = put_row(out, at, hours, days, most, 3);
-    let at = put_row(out, at, hours, days, most, 2);
-    let at = put_row(out, at, hours, days, most, 1);
-    put_row(out, at, hours, days, most, 0)
-}
-
-// The days of a month as bars of five rows.
-pub fn put_chart(out: &mut [u8], at: usize, hours: &[u32], days: usize) -> usize {
-    let most = largest_day(hours, days);
-    let at = put_form(out, at, b"    days      the largest has # kWh\n", &[most]);
-    let at = put_rows(out, at, hours, days, most);
-    put(out, at, b"               1   5    10   15   20   25   30\n")
-}
-
-// The digits of a number, ten at most.
-fn digits_of(n: u64) -> usize {
-    let k = pick(n < 10, 1, pick(n < 100, 2, pick(n < 1000, 3, 4)));
-    let k = pick(n < 10000, k, pick(n < 100000, 5, pick(n < 1000000, 6, 7)));
-    let more = pick(n < 100000000, 8, pick(n < 1000000000, 9, 10));
-    pick(n < 10000000, k, more) as usize
-}
-
-// The largest hour of a month.
-fn largest_hour(hours: &[u32]) -> u64 {
-    let mut most = 0;
-    for hour in hours {
-        most = larger(most, wide(*hour));
+    // The hours, a row a day, each in a column as wide as the largest.
+    pub fn write_table<W: fmt::Write>(&self, f: &mut fmt::Formatter<W>) -> fmt::Result {
+        let width = self
+            .largest_hour()
+            .checked_ilog10()
+            .map_or(1, |k| k as usize + 1);
+        for day in 0..self.count {
+            self.write_day(f, day, width)?;
+        }
+        Ok(())
     }
-    most
-}
 
-// A blank and a number that ends so many bytes behind it.
-fn put_cell(out: &mut [u8], at: usize, n: u64, width: usize) -> usize {
-    let at = put(out, at, b" ");
-    put_right(out, at, n, width)
-}
-
-// The hours of a day, in columns of a width.
-fn put_day(out: &mut [u8], place: usize, hours: &[u32], day: usize, width: usize) -> usize {
-    let mut at = put(out, place, b"    day ");
-    at = put_right(out, at, day_number(day), 2);
-    for h in 0..24 {
-        at = put_cell(out, at, hour_of(hours, day, h), width);
+    // The largest hour.
+    fn largest_hour(&self) -> u32 {
+        self.hours.iter().copied().max().unwrap_or(0)
     }
-    put(out, at, b"\n")
-}
 
-// The number of a day that is counted from 0.
-fn day_number(day: usize) -> u64 {
-    if day < 31 { (day + 1) as u64 } else { 0 }
-}
-
-// The hours of a month, a row a day, each hour in a column as wide as the largest.
-pub fn put_table(out: &mut [u8], place: usize, hours: &[u32], days: usize) -> usize {
-    let width = digits_of(largest_hour(hours));
-    let mut at = place;
-    for day in 0..days {
-        at = put_day(out, at, hours, day, width);
+    // A row of the table.
+    fn write_day<W: fmt::Write>(
+        &self,
+        f: &mut fmt::Formatter<W>,
+        day: usize,
+        width: usize,
+    ) -> fmt::Result {
+        let number = day.saturating_add(1);
+        write!(f, "    day {number:>2}")?;
+        for h in 0..24 {
+            let hour = hour_of(self.hours, day, h);
+            write!(f, " {hour:>width$}")?;
+        }
+        writeln!(f)
     }
-    at
 }

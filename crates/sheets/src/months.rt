@@ -1,13 +1,10 @@
 // The sheet of a closed month, for people and for programs.
-use super::days::{put_chart, put_table};
-use super::forms::{put_choice, put_form};
-use super::records::put_record;
-use super::wording::{put_clause, put_ground, put_month_name};
+use super::days::Days;
+use super::wording::{clause_words, ground_words, month_name};
 use calendar::Date;
 use marks::peak::peak_part;
-use numbers::{least, pick, wide};
 use rules::{Figures, Reasons};
-use text::put;
+use std::fmt;
 use units::Kwh;
 
 // A closed month: its line and date, T, the figures of its closing, why, and the total behind it.
@@ -21,263 +18,234 @@ pub struct Month {
     pub total: Kwh,
 }
 
-// A, the part of V that the peak rule puts into the peak hours.
-fn peak_volume(m: Month) -> u64 {
-    let n = least(m.why.peaks, 744) as u32;
-    let a = peak_part(m.figures.volume, n, m.why.power);
-    a.0
+// The sheet of a month for people, with its days as a chart and, where it is asked for, its hours as a table.
+#[derive(Clone, Copy)]
+pub struct Sheet<'a> {
+    pub month: Month,
+    pub hours: &'a [u32],
+    pub table: bool,
+}
+
+impl fmt::Display for Sheet<'_> {
+    fn fmt<W: fmt::Write>(&self, f: &mut fmt::Formatter<W>) -> fmt::Result {
+        self.month.write_volume(f)?;
+        self.month.write_counted(f)?;
+        self.month.write_past(f)?;
+        self.month.write_test(f)?;
+        self.month.write_figures(f)?;
+        let days = Days {
+            hours: self.hours,
+            count: (self.month.hours / 24) as usize,
+        };
+        days.write_chart(f)?;
+        if self.table {
+            days.write_table(f)?;
+        }
+        Ok(())
+    }
 }
 
 // A product of numbers below 2^32; a larger one counts as that.
 fn product(a: u64, b: u64) -> u64 {
-    least(a, 4294967295) * least(b, 4294967295)
+    a.min(4294967295) * b.min(4294967295)
 }
 
-// The record of a month for programs.
-pub fn put_month_record(out: &mut [u8], at: usize, m: Month) -> usize {
-    let f = m.figures;
-    let why = m.why;
-    let past = why.past;
-    let fields = [
-        m.line,
-        wide(m.date.year),
-        wide(m.date.month),
-        wide(m.hours),
-        wide(f.ground),
-        wide(why.clause),
-        f.volume.0,
-        why.reading.0,
-        why.neighbour.0,
-        wide(why.power.0),
-        why.peaks,
-        peak_volume(m),
-        f.days,
-        f.sum.0,
-        why.compared.0,
-        wide(why.run),
-        wide(why.denials),
-        wide(why.counted),
-        wide(past.year),
-        wide(past.month),
-        wide(f.capacity.0),
-        m.total.0,
-    ];
-    put_record(out, at, b"sheet", &fields)
-}
-
-// A month by name and year.
-fn put_date(out: &mut [u8], at: usize, d: Date) -> usize {
-    let at = put_month_name(out, at, d.month);
-    put_form(out, at, b" #", &[wide(d.year)])
-}
-
-// The reading of a volume less the neighbour's.
-fn put_difference(out: &mut [u8], at: usize, why: Reasons) -> usize {
-    let at = put_form(
-        out,
-        at,
-        b" # kWh less N # kWh",
-        &[why.reading.0, why.neighbour.0],
-    );
-    if why.reading.0 < why.neighbour.0 {
-        return put(out, at, b", not below 0");
+impl Month {
+    // The numbers of its record for programs.
+    pub fn fields(&self) -> [u64; 22] {
+        let Figures {
+            ground,
+            volume,
+            capacity,
+            sum,
+            days,
+        } = self.figures;
+        let why = self.why;
+        [
+            self.line,
+            u64::from(self.date.year),
+            u64::from(self.date.month),
+            u64::from(self.hours),
+            u64::from(ground),
+            why.clause.map_or(0, |clause| u64::from(clause.number())),
+            volume.0,
+            why.reading.0,
+            why.neighbour.0,
+            u64::from(why.power.0),
+            why.peaks,
+            self.peak_volume(),
+            days,
+            sum.0,
+            why.compared.0,
+            u64::from(why.run),
+            u64::from(why.denials),
+            u64::from(why.counted),
+            why.past.map_or(0, |past| u64::from(past.year)),
+            why.past.map_or(0, |past| u64::from(past.month)),
+            u64::from(capacity.0),
+            self.total.0,
+        ]
     }
-    at
-}
 
-// How a volume by the peak rule goes over the hours.
-fn put_peaks(out: &mut [u8], at: usize, m: Month) -> usize {
-    if m.why.peaks == 0 {
-        return put(out, at, b"; evenly, since n is 0");
+    // A, the part of V that the peak rule puts into the peak hours.
+    fn peak_volume(&self) -> u64 {
+        let n = self.why.peaks.min(744) as u32;
+        let part = peak_part(self.figures.volume, n, self.why.power);
+        part.0
     }
-    let p = m.why.power;
-    put_form(
-        out,
-        at,
-        b"; A # kWh evenly over # peak hours, at most P # kW each, the rest evenly over the others",
-        &[peak_volume(m), m.why.peaks, wide(p.0)],
-    )
-}
 
-// How V was found.
-fn put_found(out: &mut [u8], at: usize, m: Month) -> usize {
-    let ground = m.figures.ground;
-    if ground == 8 {
-        let p = m.why.power;
-        return put_form(
-            out,
-            at,
-            b", P # kW for T # hours",
-            &[wide(p.0), wide(m.hours)],
-        );
+    // The month, its ground, the clause, V and how it was found.
+    fn write_volume<W: fmt::Write>(&self, f: &mut fmt::Formatter<W>) -> fmt::Result {
+        let Month { hours: t, date, .. } = *self;
+        let Figures { ground, volume, .. } = self.figures;
+        writeln!(
+            f,
+            "    month     {} {}, T {t} hours",
+            month_name(date.month),
+            date.year
+        )?;
+        writeln!(f, "    ground    {ground}: {}", ground_words(ground))?;
+        writeln!(f, "    clause    {}", clause_words(self.why.clause))?;
+        write!(f, "    V         {} kWh", volume.0)?;
+        self.write_found(f)?;
+        writeln!(f)
     }
-    if ground == 9 {
-        return put_form(
-            out,
-            at,
-            b", the cable formula at T # hours",
-            &[wide(m.hours)],
-        );
+
+    // How V was found.
+    fn write_found<W: fmt::Write>(&self, f: &mut fmt::Formatter<W>) -> fmt::Result {
+        let t = self.hours;
+        match self.figures.ground {
+            1 | 3 => write!(f, ", the sum of the hours read"),
+            2 => {
+                self.write_difference(f, "B")?;
+                self.write_peaks(f)
+            }
+            5 => {
+                self.write_difference(f, "K")?;
+                self.write_peaks(f)
+            }
+            7 => write!(f, ", the sum of the hours taken from the past"),
+            8 => write!(f, ", P {} kW for T {t} hours", self.why.power.0),
+            9 => write!(f, ", the cable formula at T {t} hours"),
+            _ => self.write_difference(f, "K"),
+        }
     }
-    if (ground == 1) | (ground == 3) | (ground == 7) {
-        let from = pick(ground == 7, 1, 0);
-        return put_choice(
-            out,
-            at,
-            b", the sum of the hours read\n\
-            , the sum of the hours taken from the past\n",
-            from,
-        );
+
+    // The reading of a volume, by its letter, less the neighbour's.
+    fn write_difference<W: fmt::Write>(
+        &self,
+        f: &mut fmt::Formatter<W>,
+        letter: &str,
+    ) -> fmt::Result {
+        let reading = self.why.reading.0;
+        let neighbour = self.why.neighbour.0;
+        write!(f, ", {letter} {reading} kWh less N {neighbour} kWh")?;
+        if reading < neighbour {
+            write!(f, ", not below 0")?;
+        }
+        Ok(())
     }
-    put_from_reading(out, at, m)
-}
 
-// The same on grounds 2, 4, 5 and 6, where V is a reading less the neighbour's.
-fn put_from_reading(out: &mut [u8], at: usize, m: Month) -> usize {
-    let ground = m.figures.ground;
-    let name = pick(ground == 2, 0, 1);
-    let at = put_choice(out, at, b", B\n, K\n", name);
-    let at = put_difference(out, at, m.why);
-    if (ground == 2) | (ground == 5) {
-        return put_peaks(out, at, m);
+    // How a volume by the peak rule goes over the hours.
+    fn write_peaks<W: fmt::Write>(&self, f: &mut fmt::Formatter<W>) -> fmt::Result {
+        let Reasons { peaks, power, .. } = self.why;
+        if peaks == 0 {
+            return write!(f, "; evenly, since n is 0");
+        }
+        let part = self.peak_volume();
+        write!(
+            f,
+            "; A {part} kWh evenly over {peaks} peak hours, at most P {} kW each",
+            power.0
+        )?;
+        write!(f, ", the rest evenly over the others")
     }
-    at
-}
 
-// R, and why.
-fn put_counted(out: &mut [u8], at: usize, why: Reasons) -> usize {
-    let at = put_form(
-        out,
-        at,
-        b"    R         #: the run of # plus 1",
-        &[wide(why.counted), wide(why.run)],
-    );
-    if wide(why.counted) != wide(why.run) + 1 {
-        return put(out, at, b", and at least 3 with two denials\n");
+    // R, and why.
+    fn write_counted<W: fmt::Write>(&self, f: &mut fmt::Formatter<W>) -> fmt::Result {
+        let Reasons {
+            counted,
+            run,
+            denials,
+            ..
+        } = self.why;
+        write!(f, "    R         {counted}: the run of {run} plus 1")?;
+        if u64::from(counted) == u64::from(run) + 1 {
+            writeln!(f, "; denials {denials}")
+        } else {
+            writeln!(f, ", and at least 3 with two denials")
+        }
     }
-    put_form(out, at, b"; denials #\n", &[wide(why.denials)])
-}
 
-// Whether a month is the same month of the year before.
-fn is_year_before(past: Date, d: Date) -> bool {
-    (past.month == d.month) & (wide(past.year) + 1 == wide(d.year))
-}
-
-// Whether grounds 5 and 6 were compared: an integral control reading, R at least 3, peak hours and a past.
-fn is_tested(m: Month) -> bool {
-    let why = m.why;
-    let ground = m.figures.ground;
-    ((ground == 5) | (ground == 6)) & (3 <= why.counted) & (0 < why.peaks) & (why.past.year != 0)
-}
-
-// The past month, by which rule it is the past, and whether the ground used it.
-fn put_past(out: &mut [u8], at: usize, m: Month) -> usize {
-    let past = m.why.past;
-    let at = put(out, at, b"    past      ");
-    if past.year == 0 {
-        return put(out, at, b"none\n");
+    // The past month, by which rule it is the past, and whether the ground used it.
+    fn write_past<W: fmt::Write>(&self, f: &mut fmt::Formatter<W>) -> fmt::Result {
+        let Some(past) = self.why.past else {
+            return writeln!(f, "    past      none");
+        };
+        let which = if self.is_year_after(past) {
+            "the same month last year"
+        } else {
+            "the latest month measured"
+        };
+        let role = match self.figures.ground {
+            4 | 6 | 7 => "used",
+            _ if self.is_tested() => "used in the test alone",
+            _ => "not used",
+        };
+        writeln!(
+            f,
+            "    past      {} {}, {which}, {role}",
+            month_name(past.month),
+            past.year
+        )
     }
-    let at = put_date(out, at, past);
-    let which = pick(is_year_before(past, m.date), 0, 1);
-    let at = put_choice(
-        out,
-        at,
-        b", the same month last year\n\
-        , the latest month measured\n",
-        which,
-    );
-    let ground = m.figures.ground;
-    let used = (ground == 4) | (ground == 6) | (ground == 7);
-    let role = pick(used, 0, pick(is_tested(m), 1, 2));
-    let at = put_choice(
-        out,
-        at,
-        b", used\n, used in the test alone\n, not used\n",
-        role,
-    );
-    put(out, at, b"\n")
-}
 
-// The test between grounds 5 and 6, where there is one.
-fn put_test(out: &mut [u8], at: usize, m: Month) -> usize {
-    let why = m.why;
-    if !is_tested(m) {
-        return at;
+    // Whether a past month is the same month of the year before.
+    fn is_year_after(&self, past: Date) -> bool {
+        past.month == self.date.month && u64::from(past.year) + 1 == u64::from(self.date.year)
     }
-    let low = product(peak_volume(m), m.figures.days);
-    let high = product(why.peaks, why.compared.0);
-    let at = put_form(
-        out,
-        at,
-        b"    test      A times d is #, n times C' is #: ",
-        &[low, high],
-    );
-    let outcome = pick(m.figures.ground == 6, 0, 1);
-    let at = put_choice(
-        out,
-        at,
-        b"less, so the past\n\
-        not less, so the peak rule\n",
-        outcome,
-    );
-    put(out, at, b"\n")
-}
 
-// n, d, C, capacity and the total.
-fn put_figures(out: &mut [u8], at: usize, m: Month) -> usize {
-    let f = m.figures;
-    put_form(
-        out,
-        at,
-        b"    n         # peak hours\n    \
-        d         # working days\n    \
-        C         # kWh in the capacity hours\n    \
-        capacity  # kW\n    \
-        total     # kWh\n",
-        &[m.why.peaks, f.days, f.sum.0, wide(f.capacity.0), m.total.0],
-    )
-}
-
-// The month and its ground.
-fn put_head(out: &mut [u8], at: usize, m: Month) -> usize {
-    let at = put(out, at, b"    month     ");
-    let at = put_date(out, at, m.date);
-    let ground = m.figures.ground;
-    let at = put_form(
-        out,
-        at,
-        b", T # hours\n    ground    #: ",
-        &[wide(m.hours), wide(ground)],
-    );
-    put_ground(out, at, ground)
-}
-
-// The clause, V and how it was found.
-fn put_volume(out: &mut [u8], at: usize, m: Month) -> usize {
-    let at = put(out, at, b"\n    clause    ");
-    let at = put_clause(out, at, m.why.clause);
-    let at = put_form(out, at, b"\n    V         # kWh", &[m.figures.volume.0]);
-    let at = put_found(out, at, m);
-    put(out, at, b"\n")
-}
-
-// The sheet of a month for people, with its days as a chart and, where it is asked for, its hours as a table.
-pub fn put_sheet(out: &mut [u8], at: usize, m: Month, hours: &[u32], table: bool) -> usize {
-    let days = (m.hours / 24) as usize;
-    let at = put_head(out, at, m);
-    let at = put_volume(out, at, m);
-    let at = put_counted(out, at, m.why);
-    let at = put_past(out, at, m);
-    let at = put_test(out, at, m);
-    let at = put_figures(out, at, m);
-    put_days(out, at, hours, days, table)
-}
-
-// The chart of the days and the table of the hours.
-fn put_days(out: &mut [u8], at: usize, hours: &[u32], days: usize, table: bool) -> usize {
-    let at = put_chart(out, at, hours, days);
-    if table {
-        return put_table(out, at, hours, days);
+    // Whether grounds 5 and 6 were compared: an integral control reading, R at least 3, peak hours and a past.
+    fn is_tested(&self) -> bool {
+        let Reasons {
+            counted,
+            peaks,
+            past,
+            ..
+        } = self.why;
+        matches!(self.figures.ground, 5 | 6) && 3 <= counted && 0 < peaks && past.is_some()
     }
-    at
+
+    // The test between grounds 5 and 6, where there is one.
+    fn write_test<W: fmt::Write>(&self, f: &mut fmt::Formatter<W>) -> fmt::Result {
+        if !self.is_tested() {
+            return Ok(());
+        }
+        let low = product(self.peak_volume(), self.figures.days);
+        let high = product(self.why.peaks, self.why.compared.0);
+        let outcome = if self.figures.ground == 6 {
+            "less, so the past"
+        } else {
+            "not less, so the peak rule"
+        };
+        writeln!(
+            f,
+            "    test      A times d is {low}, n times C' is {high}: {outcome}"
+        )
+    }
+
+    // n, d, C, capacity and the total.
+    fn write_figures<W: fmt::Write>(&self, f: &mut fmt::Formatter<W>) -> fmt::Result {
+        let Figures {
+            capacity,
+            sum,
+            days,
+            ..
+        } = self.figures;
+        writeln!(f, "    n         {} peak hours", self.why.peaks)?;
+        writeln!(f, "    d         {days} working days")?;
+        writeln!(f, "    C         {} kWh in the capacity hours", sum.0)?;
+        writeln!(f, "    capacity  {} kW", capacity.0)?;
+        writeln!(f, "    total     {} kWh", self.total.0)
+    }
 }

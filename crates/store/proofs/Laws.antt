@@ -1,8 +1,8 @@
 -- What holds of the store and of its rows, word by word. Assumes nothing.
-use mathlib.Core.Path.{◌≡◌, sym, ◌∙◌}
+use mathlib.Core.Path.{◌≡◌, refl, sym, ◌∙◌}
 use mathlib.Core.Logic.{◌⊎◌, ⊎_elim}
 use mathlib.Core.List.{List, [], ◌++◌}
-use mathlib.Core.Bool.{true, cond, ◌&&◌}
+use mathlib.Core.Bool.{Bool, true, cond, ◌&&◌}
 use Prim.Native.Nat.{ℕ, ◌+◌, ◌-◌, ◌*◌, ◌≤◌, ◌<◌}
 use native.Mathlib.Nat.{sub-zero, add-sub_cancel_left}
 use native.Mathlib.Omega.{arith}
@@ -11,13 +11,15 @@ use borrow.Author.Tests.{eq-eqb, le-leb, eqb-true, leb-true}
 use lib.Dec.{eqb, leb}
 use lib.ListN.{length, take, drop, length-append, length-take, length-drop, length-replicate, get_or-append}
 use lib.Seq.{ext_get_or, get_or-take, get_or-drop, get_or-append-add, take_at, drop_at, length-take-le, take_all}
-use Rattle.numbers.specs.Lists.{at, zeros, padded, none_above, Filled}
-use Rattle.numbers.proofs.Laws.{both, tab_at, none_above_at, none_above_from, at_zeros, at_more, filled_padded}
+use Rattle.std.proofs.lemmas.List.{drop-replicate}
+use Rattle.numbers.specs.Lists.{at, zeros, padded, none_above}
+use Rattle.numbers.proofs.Laws.{both, none_above_at, none_above_from, at_zeros, at_more}
 use Rattle.store.specs.Store.{row_part, row_fits, as_row, put_row, written_in, read_from, empty_store, store_fits}
 
 -- a list copied over the front of zeros
-pub copied : {d l : List ℕ} (m : ℕ) (xs : List ℕ) → Filled (at xs) d l (length xs) → d ≡ zeros m → l ≡ padded m xs
-copied m xs filled e = rw tab_at at (filled_padded m filled e)
+pub copied : {d part : List ℕ} (m : ℕ) (xs : List ℕ) → part ≡ xs → d ≡ zeros m → part ++ drop (length xs) d ≡ padded m xs
+unfolding padded
+copied m xs e z = rw (e, z, drop-replicate) refl
 
 -- hours keep their words as a row
 pub at_row : (hours : List ℕ) (k : ℕ) → at (as_row hours) k ≡ at hours k
@@ -154,10 +156,11 @@ module _ (r : ℕ) (xs store : List ℕ) (size : length store ≡ 10416) (row : 
       (λ k l m. ⊎_elim (λ o. at_put_before k (omega arith)) (λ o. at_put_after k (omega arith)) other)
 
 -- a store fits where both of its parts do, the first of 8,928 words and the second of 1,488
-pub fits_parts : (store : List ℕ) → length store ≡ 10416
-    → store_fits store ≡ (none_above 3000000 (take 8928 store) && none_above 1000000 (take 1488 (drop 8928 store)))
+pub fits_parts : (store : List ℕ) {a b : Bool} → length store ≡ 10416 → a ≡ none_above 3000000 (take 8928 store)
+    → b ≡ none_above 1000000 (take 1488 (drop 8928 store)) → (a && b) ≡ (eqb (length store) 10416 && store_fits store)
 unfolding store_fits
-fits_parts store size = rw (take_all 1488 (drop 8928 store) (omega (arith, length-drop 8928 store)))
+fits_parts store size e f =
+    rw (eq-eqb (length store) 10416 size, e, f, take_all 1488 (drop 8928 store) (omega (arith, length-drop 8928 store))) refl
 
 -- a store that fits has no word above 3,000,000, and none above 1,000,000 from row 12 on
 module _ (store : List ℕ) (fits : store_fits store ≡ true) where

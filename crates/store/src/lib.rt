@@ -3,7 +3,7 @@
 #![tactic(auto)]
 
 ghost use Rattle.std.specs.Prelude.{◌≡◌, cond, ◌&&◌, [], ◌≤◌, eqb, length};
-ghost use Rattle.numbers.specs.Lists.{at, padded, Filled};
+ghost use Rattle.numbers.specs.Lists.{padded};
 ghost use Rattle.store.specs.Store.{row_fits, written_in, read_from, empty_store, store_fits};
 
 use numbers::{clear, none_above};
@@ -16,19 +16,6 @@ pub fn row_fits(size: usize, row: usize, t: usize) -> bool
     (size == 10416) & (row <= 13) & (t <= 744)
 }
 
-// The words of a list into the front of a row.
-#[tactic(auto, using(numbers::proofs::Laws::filled_none, numbers::proofs::Laws::filled_more, numbers::proofs::Laws::filled_end))]
-fn copy_words(row: &mut [u32], hours: &[u32])
-    requires { length hours.now ≤ length row.old }
-    ensures { Filled (at hours.now) row.old row.new (length hours.now) }
-{
-    let mut h = 0;
-    while h < hours.len() {
-        row[h] = hours[h];
-        h += 1;
-    }
-}
-
 // A list of hours into a row, and 0 from its end on.
 #[tactic(auto, using(crate::proofs::Laws::copied))]
 fn copy_row(row: &mut [u32], hours: &[u32])
@@ -36,7 +23,7 @@ fn copy_row(row: &mut [u32], hours: &[u32])
     ensures { row.new ≡ padded (length row.old) hours.now }
 {
     clear(row);
-    copy_words(row, hours)
+    row[..hours.len()].copy_from_slice(hours);
 }
 
 // The hours of a list become row r, with 0 from their end on. A store that is not 14 rows, a row that it does not have,
@@ -88,7 +75,6 @@ pub fn clear_store(store: &mut [u32])
 }
 
 // Whether the store is 14 rows, with no word above 3,000,000 in rows 0 to 11 and none above 1,000,000 in rows 12 and 13.
-#[tactic(auto, using(crate::proofs::Laws::fits_parts))]
 pub fn store_fits(store: &[u32]) -> bool
     ensures { result ≡ (eqb (length store.now) 10416 && store_fits store.now) }
 {

@@ -1,18 +1,17 @@
--- Text in a buffer.
-use Rattle.std.specs.Prelude.{ℕ, ◌+◌, ◌-◌, ◌≡◌, Bool, cond, ◌&&◌, List, ◌++◌, leb, length, take, drop}
+-- Text that is written behind other text, in a fixed room.
+use Rattle.std.specs.Prelude.{ℕ, ◌+◌, ◌≡◌, Bool, cond, List, ◌++◌, leb, length}
 use Rattle.io.specs.Digits.{last_digits, IsDigitCount}
 
--- there is room for a text at a place of a buffer
-abbrev pub has_room : List ℕ → ℕ → List ℕ → Bool
-has_room text place buffer = leb place (length buffer) && leb (length text) (length buffer - place)
+-- there is room for a text behind what is written
+abbrev pub has_room : ℕ → List ℕ → List ℕ → Bool
+has_room room text written = leb (length written + length text) room
 
--- A TEXT WAS PUT at a place: where there is room, the buffer has it there and is as it was elsewhere, and r is the place behind it; else nothing changed
-pub record Put (text : List ℕ) (place : ℕ) (before after : List ℕ) (r : ℕ) : Type 0 where
-  pub is : after ≡ cond (has_room text place before) (take place before ++ (text ++ drop (length text) (drop place before))) before
-  pub next : r ≡ cond (has_room text place before) (place + length text) place
+-- what is written WHEN A TEXT WAS PUT: the text is the last of it where there is room for it; else nothing changed
+abbrev pub with_text : ℕ → List ℕ → List ℕ → List ℕ
+with_text room text written = cond (has_room room text written) (written ++ text) written
 
 -- A NUMBER WAS PUT: its digits in base ten, as few as it has
-pub record Numbered (n place : ℕ) (before after : List ℕ) (r : ℕ) : Type 0 where
+pub record Numbered (room n : ℕ) (before after : List ℕ) : Type 0 where
   pub count : ℕ
   pub fewest : IsDigitCount 10 1 n count
-  pub put : Put (last_digits 10 count n) place before after r
+  pub put : after ≡ with_text room (last_digits 10 count n) before

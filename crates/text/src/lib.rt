@@ -1,79 +1,106 @@
-// Text and numbers into a buffer that the caller lends, at a place; the answer is the place behind them. Text for which
-// there is no room is left out whole.
+// Text of a fixed room, which is written from its start on. What has no room is left out whole.
 #![tactic(auto)]
 
-ghost use Rattle.std.specs.Prelude.{◌≡◌, ◌==◌, ◌+◌, ◌≤◌, drop, length};
-ghost use Rattle.std.specs.List.{position, position_or_len};
-ghost use Rattle.text.specs.Text.{Put, Numbered};
+ghost use Rattle.std.specs.Prelude.{◌≡◌, ◌≤◌, [], length};
+ghost use Rattle.text.specs.Text.{has_room, with_text, Numbered};
 
-// A text at a place of the buffer. Where it has no room nothing changes, and the place stays.
-pub fn put(out: &mut [u8], place: usize, text: &[u8]) -> usize
-    ensures { Put text.now place out.old out.new result }
-{
-    if place <= out.len() {
-        if text.len() <= out.len() - place {
-            let end = place + text.len();
-            out[place..end].copy_from_slice(text);
-            return end;
+use std::fmt;
+use std::fmt::{Display, Write};
+use std::marker::Model;
+
+// Bytes that are written one behind the other, of which there is room for N. Contracts see those that are written.
+#[derive(Drop)]
+pub struct Buffer<const N: usize> {
+    bytes: [u8; N],
+    len: usize,
+}
+
+impl<const N: usize> Model for Buffer<N> {
+    ghost use Rattle.std.specs.Prelude.{◌≤◌, ℕ, List, take};
+
+    ghost Value = { List ℕ };
+
+    ghost view = { λ b. take b.len b.bytes };
+
+    ghost invariant = { λ b. b.len ≤ N };
+}
+
+impl<const N: usize> Buffer<N> {
+    // Nothing is written.
+    pub fn new() -> Self
+        ensures { result ≡ [] }
+    {
+        Buffer {
+            bytes: [0; N],
+            len: 0,
         }
     }
-    place
-}
 
-// A number in base ten.
-pub fn put_number(out: &mut [u8], place: usize, n: u64) -> usize
-    ensures { Numbered n place out.old out.new result }
-{
-    let mut text = [0u8; 20];
-    let k = io::decimal(n, &mut text);
-    put(out, place, &text[..k])
-}
-
-// So many blanks.
-fn put_blanks(out: &mut [u8], place: usize, n: usize) -> usize {
-    let mut at = place;
-    let mut k = 0;
-    while k < n {
-        at = put(out, at, b" ");
-        k += 1;
+    // How many bytes are written.
+    pub fn len(&self) -> usize
+        ensures count { result ≡ length self.now }
+        ensures fits { result ≤ N }
+    {
+        self.len
     }
-    at
-}
 
-// A number in base ten that ends so many bytes behind its place, or where it ends by itself if it has more digits.
-pub fn put_right(out: &mut [u8], place: usize, n: u64, width: usize) -> usize {
-    let mut text = [0u8; 20];
-    let k = io::decimal(n, &mut text);
-    if k < width {
-        let behind = put_blanks(out, place, width - k);
-        return put(out, behind, &text[..k]);
+    // The bytes that are written.
+    pub fn as_slice(&self) -> &[u8]
+        ensures bytes { result.now ≡ self.now }
+        ensures fits { length result.now ≤ N }
+    {
+        &self.bytes[..self.len]
     }
-    put(out, place, &text[..k])
-}
 
-// Where a byte stands first in a text, if it does.
-fn first(text: &[u8], byte: u8) -> Option<usize>
-    ensures { result ≡ position (λ b. b == byte) text.now }
-{
-    text.iter().position(|b| *b == byte)
-}
+    // Whether there is room for a text behind what is written.
+    pub fn has_room(&self, text: &[u8]) -> bool
+        ensures { result ≡ has_room N text.now self.now }
+    {
+        text.len() <= N - self.len
+    }
 
-// How many bytes of a text stand before the first of a value, all of them where it has none.
-fn before(text: &[u8], byte: u8) -> usize
-    ensures value { result ≡ position_or_len (λ b. b == byte) text.now }
-    ensures end { result ≤ length text.now }
-{
-    match first(text, byte) {
-        Some(k) => k,
-        None => text.len(),
+    // Nothing is written any more.
+    pub fn clear(&mut self)
+        ensures { self.new ≡ [] }
+    {
+        self.len = 0;
+    }
+
+    // A text. Where it has no room nothing changes.
+    pub fn put(&mut self, text: &[u8])
+        ensures { self.new ≡ with_text N text.now self.old }
+    {
+        let start = self.len;
+        if text.len() <= N - start {
+            let all = &mut self.bytes[..];
+            all[start..start + text.len()].copy_from_slice(text);
+            self.len = start + text.len();
+        }
+    }
+
+    // A number in base ten.
+    pub fn put_number(&mut self, n: u64)
+        ensures { Numbered N n self.old self.new }
+    {
+        let mut digits = [0; 20];
+        let count = io::decimal(n, &mut digits);
+        self.put(&digits[..count]);
+    }
+
+    // What a value displays, each piece of it as a text of its own.
+    pub fn print(&mut self, value: impl Display + Drop) {
+        let _ = self.write(value);
     }
 }
 
-// Where a byte stands first in a text, from a place on; where it does not, the text's end.
-pub fn find(text: &[u8], from: usize, byte: u8) -> usize
-    requires { from ≤ length text.now }
-    ensures value { result ≡ from + position_or_len (λ b. b == byte) (drop from text.now) }
-    ensures end { result ≤ length text.now }
-{
-    from + before(&text[from..], byte)
+// A piece of a format is a text like any other, so that one without room is left out and those behind it are not.
+impl<const N: usize> Write for Buffer<N> {
+    ghost write_str_gives = { λ before text after. after ≡ with_text N text before };
+
+    fn write_str(&mut self, s: &str) -> fmt::Result
+        ensures { self.new ≡ with_text N s.now self.old }
+    {
+        self.put(s.as_bytes());
+        Ok(())
+    }
 }

@@ -3,16 +3,14 @@
 
 ghost use Rattle.std.specs.Prelude.{◌≡◌, ◌*◌};
 
-use numbers::wide;
-
 // A power in whole kW.
 #[repr(C)]
-#[derive(Clone, Copy)]
+#[derive(Clone, Copy, PartialEq, Eq, PartialOrd, Ord, Default)]
 pub struct Kw(pub u32);
 
 // A volume in whole kWh.
 #[repr(C)]
-#[derive(Clone, Copy)]
+#[derive(Clone, Copy, PartialEq, Eq, PartialOrd, Ord, Default)]
 pub struct Kwh(pub u64);
 
 // The greatest volumes: that a meter can read in a month, 744 hours of 1,000,000; that a month can be closed with, 744 hours
@@ -27,5 +25,5 @@ pub const GREATEST_TOTAL: u64 = 30000000000000;
 pub fn energy(hours: u32, power: Kw) -> Kwh
     ensures { result.0 ≡ hours * power.0 }
 {
-    Kwh(wide(hours) * wide(power.0))
+    Kwh(u64::from(hours) * u64::from(power.0))
 }

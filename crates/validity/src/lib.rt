@@ -3,28 +3,21 @@
 
 ghost use Rattle.std.specs.Prelude.{◌≡◌, ◌+◌, ◌<◌};
 ghost use Rattle.numbers.specs.Lists.{all_to};
-ghost use Rattle.validity.specs.Valid.{all_of, is_no_cable, rest_is_zero, contract_tests, service_tests, year_before, year_fits, latest_in_row};
+ghost use Rattle.validity.specs.Valid.{all_of, rest_is_zero, contract_tests, service_tests, year_before, year_fits, latest_in_row};
 ghost use Rattle.validity.specs.Valid.{past_tests, reading_tests, readings_tests, volume_limit, valid};
 
 use calendar::{Date, is_month_number, is_open, month_number, open_hours};
 use contract::{Contract, is_agreed, meters_fit};
-use numbers::wide;
-use power::{Cable, cable_fits};
+use power::Cable;
 use record::{Past, Reading, Readings, Record, Service};
-use units::GREATEST_TOTAL;
+use units::{GREATEST_TOTAL, Kw};
 
 // T × 1,000,000, the greatest volume of a reading in the open month.
 #[tactic(auto, unfolding(crate::specs::Valid::volume_limit))]
 pub fn volume_limit(d: Date) -> u64
     ensures { result ≡ volume_limit d }
 {
-    wide(open_hours(d)) * 1000000
-}
-
-fn is_no_cable(k: Cable) -> bool
-    ensures { result ≡ is_no_cable k }
-{
-    (k.amperes == 0) & (k.volts == 0) & (k.cosine == 0) & (k.phases == 0)
+    u64::from(open_hours(d)) * 1000000
 }
 
 // What the basis does not use is 0.
@@ -32,9 +25,10 @@ fn rest_is_zero(c: Contract) -> bool
     ensures { result ≡ rest_is_zero c }
 {
     if c.basis == 3 {
-        return c.power.0 == 0;
+        c.power == Kw(0)
+    } else {
+        c.cable == Cable::default()
     }
-    is_no_cable(c.cable)
 }
 
 fn contract_fits(c: Contract) -> bool
@@ -44,7 +38,7 @@ fn contract_fits(c: Contract) -> bool
     meters_fit(c)
         & (is_agreed(c.basis) | cabled)
         & (c.power.0 <= 1000000)
-        & (!cabled | cable_fits(c.cable))
+        & (!cabled | c.cable.fits())
         & rest_is_zero(c)
 }
 
@@ -67,18 +61,15 @@ fn year_fits(y: u32, k: u32, d: Date) -> bool
         year: y,
         month: k + 1,
     };
-    (y == 0) | ((2014 <= y) & (y <= 2999) & (month_number(month) < month_number(d)))
+    (y == 0) | ((2014..=2999).contains(&y) & (month_number(month) < month_number(d)))
 }
 
 fn years_fit(years: [u32; 12], d: Date) -> bool
     ensures { result ≡ all_to (year_fits years d) 12 }
 {
     let mut ok = true;
-    let mut k: u32 = 0;
-    while k < 12 {
-        let i = k as usize;
-        ok = ok & year_fits(years[i], k, d);
-        k = k + 1;
+    for k in 0..12 {
+        ok &= year_fits(years[k as usize], k, d);
     }
     ok
 }
@@ -87,21 +78,17 @@ fn years_fit(years: [u32; 12], d: Date) -> bool
 fn latest_in_row(p: Past) -> bool
     ensures { result ≡ latest_in_row p }
 {
-    let latest = p.latest;
-    if latest == 0 {
+    if p.latest == 0 {
         return true;
     }
-    let before = latest - 1;
-    let i = (before % 12) as usize;
-    let y = p.years[i] as u64;
-    y == before / 12
+    let before = p.latest - 1;
+    u64::from(p.years[(before % 12) as usize]) == before / 12
 }
 
 fn past_fits(p: Past, d: Date) -> bool
     ensures { result ≡ all_of (past_tests p d) }
 {
-    let years = p.years;
-    years_fit(years, d)
+    years_fit(p.years, d)
         & ((p.latest == 0) | (is_month_number(p.latest) & (p.latest < month_number(d))))
         & latest_in_row(p)
 }

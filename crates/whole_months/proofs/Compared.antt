@@ -5,10 +5,13 @@ use Prim.Native.Nat.{ℕ}
 use lib.ListN.{set}
 use Rattle.numbers.specs.Lists.{zeros}
 use Rattle.record.specs.Record.{kwh, given_as, no_readings, fresh_service, with_serving, with_denials, with_control, with_first}
-use Rattle.rules.specs.Rules.{missing, hourly, whole, no_past_hours, past_hours}
+use Rattle.rules.specs.Rules.{missing, hourly, whole}
 use Rattle.model.specs.Model.{state}
+use Rattle.std.specs.Prelude.{Some}
+use Rattle.rules.specs.declared.Clause.TheVariants.{DeniedTwice}
 use Rattle.reasons.specs.Reasons.{compared_in, reasons_of}
 use Rattle.reasons.proofs.Examples.{on, contract, january, reason_definitions}
+use Rattle.std.specs.Prelude.{None}
 
 -- one peak and capacity hour, hour 10; and a past of 5 kWh there and 15 in hour 20
 abbrev marked : List ℕ
@@ -19,12 +22,12 @@ row = set (set (zeros 744) 10 5) 20 15
 
 -- V 16 by the past gives hour 10 a quarter; C' is 0 with R 2, without peak hours, without a past, with N above K, and with any other reading
 sums :
-    (compared_in (january marked 3 missing (whole 20) 4 (past_hours row)) ≡ 4) × (compared_in (january marked 2 missing (whole 20) 4 (past_hours row)) ≡ 0)
-    × (compared_in (january (set (zeros 744) 10 2) 3 missing (whole 20) 4 (past_hours row)) ≡ 0)
-    × (compared_in (january marked 3 missing (whole 20) 4 no_past_hours) ≡ 0)
-    × (compared_in (january marked 3 missing (whole 20) 24 (past_hours row)) ≡ 0)
-    × (compared_in (january marked 3 (whole 20) (whole 20) 4 (past_hours row)) ≡ 0)
-    × (compared_in (january marked 3 missing (hourly row) 4 (past_hours row)) ≡ 0) × (compared_in (january marked 3 missing missing 4 (past_hours row)) ≡ 0)
+    (compared_in (january marked 3 missing (whole 20) 4 (Some row)) ≡ 4) × (compared_in (january marked 2 missing (whole 20) 4 (Some row)) ≡ 0)
+    × (compared_in (january (set (zeros 744) 10 2) 3 missing (whole 20) 4 (Some row)) ≡ 0)
+    × (compared_in (january marked 3 missing (whole 20) 4 None) ≡ 0)
+    × (compared_in (january marked 3 missing (whole 20) 24 (Some row)) ≡ 0)
+    × (compared_in (january marked 3 (whole 20) (whole 20) 4 (Some row)) ≡ 0)
+    × (compared_in (january marked 3 missing (hourly row) 4 (Some row)) ≡ 0) × (compared_in (january marked 3 missing missing 4 (Some row)) ≡ 0)
 unfolding reason_definitions
 sums = (refl, refl, refl, refl, refl, refl, refl, refl)
 
@@ -40,7 +43,7 @@ whole_answer :
       total = kwh 0;
     }) row) marked
     ≡ record {
-      clause = 178;
+      clause = Some DeniedTwice;
       reading = kwh 20;
       neighbour = kwh 4;
       power = record { 0 = 3 };
@@ -48,7 +51,7 @@ whole_answer :
       run = 0;
       denials = 2;
       counted = 3;
-      past = on 2022 1;
+      past = Some (on 2022 1);
       compared = kwh 4;
     }
 unfolding reason_definitions

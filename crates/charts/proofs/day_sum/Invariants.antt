@@ -1,11 +1,8 @@
 -- The sum is that of the first h hours, each below 2^32.
-use Rattle.std.proofs.Common.{◌≡◌, ◌-◌, ◌≤◌, ◌*◌}
+use Rattle.std.proofs.Common.{◌≡◌, ◌≤◌, ◌*◌}
 use Rattle.numbers.specs.Lists.{sum_to}
 use Rattle.charts.specs.Charts.{hour_of}
 use Rattle.charts.proofs.day_sum.Given as goal
 
 abbrev pub invariant-loop-h : goal.invariant-loop-h
-invariant-loop-h l = (l.h ≤ 24) × (l.sum ≤ 4294967295 * l.h) × (l.sum ≡ sum_to (hour_of l.hours l.day) l.h)
-
-abbrev pub decreases-loop-h : goal.decreases-loop-h
-decreases-loop-h l = 24 - l.h
+invariant-loop-h l = (l.sum ≤ 4294967295 * l.h) × (l.sum ≡ sum_to (hour_of l.hours l.day) l.h)

@@ -5,6 +5,6 @@ use Rattle.charts.proofs.reaches.Goals as goal
 
 pub overflow_mul-result : goal.overflow_mul-result
 overflow_mul-result c =
-    let a : c.least.result ≤ 4 = omega (arith, c.least.ensures) in
-    let b : c.least-2.result ≤ 200000000000 = omega (arith, c.least-2.ensures) in
-    record { fits = omega (arith, mul-le-mul a b) }
+    let rows : c.min.result ≤ 4 = omega arith in
+    let most : c.min-2.result ≤ 200000000000 = omega arith in
+    record { fits = omega (arith, mul-le-mul rows most) }

@@ -6,8 +6,8 @@ use Rattle.grounds.proofs.ground_nine.Goals as goal
 
 pub evenly-requires : goal.evenly-requires
 evenly-requires c =
-    (cable_most _ _ c.cable_volume.ensures c.requires.0 c.requires.2, omega arith, omega arith, c.requires.3)
+    (cable_most _ _ c.volume.ensures c.requires.0 c.requires.2, omega arith, omega arith, c.requires.3)
 
 pub returns : goal.returns
 returns c =
-    rw (c.cable_volume.ensures, formula_in_lem c.args.cable c.args.t c.requires.0 (omega arith)) at c.evenly.ensures
+    rw (c.volume.ensures, formula_in_lem c.args.cable c.args.t c.requires.0 (omega arith)) at c.evenly.ensures

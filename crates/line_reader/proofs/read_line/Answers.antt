@@ -1,26 +1,31 @@
--- A finished line stays; one token more is one turn fewer; and at the end of the line only its last token is left.
-use Rattle.std.proofs.Common.{◌≡◌, sym, ◌∙◌, arith, rules}
-use borrow.Author.Tests.{le-leb}
-use Rattle.line_reader.specs.Lines.{line_read, read_tokens, read_line}
-use Rattle.line_reader.proofs.Finished.{finished, tokens_on}
+-- One token more is one fewer to read, and leaves less of the line; a finished line stays.
+use Rattle.std.proofs.Common.{sym, ◌∙◌, ap, suc, length}
+use Rattle.line_reader.specs.Lines.{LineRead, line_read, fresh_line, read_tokens, read_line}
+use Rattle.line_reader.proofs.Finished.{tokens_done, tokens_last}
+use Rattle.line_reader.proofs.Ends.{token_less, one_fewer}
 use Rattle.line_reader.proofs.read_line.Goals as goal
 
-pub loop-left-init : goal.loop-left-init
-unfolding read_line
-loop-left-init c = (search rules, search rules, rw c.fresh_line-s.ensures)
+pub loop-numbers-init : goal.loop-numbers-init
+unfolding read_line read_tokens
+loop-numbers-init c =
+    let fresh = line_read fresh_line c.args.numbers.now c.args.group.now in
+    let n = length c.args.line.now in
+    (suc n, rw c.fresh_line-s.ensures (tokens_last n c.args.hours c.args.first c.args.line.now fresh))
 
-pub returns-then-s-ge-READ : goal.returns-then-s-ge-READ
-returns-then-s-ge-READ c =
-    sym (finished c.loop-left.left c.args.hours c.args.first c.args.line.now _ (le-leb _ _ c.if-s-ge-READ.true)) ∙ c.loop-left.invariant.2
+pub loop-numbers-smaller : goal.loop-numbers-smaller
+loop-numbers-smaller c =
+    let read = line_read c.loop-numbers.s c.loop-numbers.numbers c.loop-numbers.group in
+    let on = sym c.is_finished.ensures ∙ c.loop-numbers-test.true in
+    let e = ap (λ (r : LineRead). r.line) c.read_token-s.ensures in
+    rw e (token_less c.args.hours c.args.first c.args.line.now read on)
 
-pub loop-left-preserved : goal.loop-left-preserved
-loop-left-preserved c =
-    let read = line_read c.loop-left.s c.loop-left.numbers c.loop-left.group in
-    let on = tokens_on c.loop-left.left c.args.hours c.args.first c.args.line.now read (search rules) in
-    (search rules, search rules, rw (c.read_token-s.ensures, on) c.loop-left.invariant.2)
+pub loop-numbers-preserved : goal.loop-numbers-preserved
+loop-numbers-preserved c =
+    let read = line_read c.loop-numbers.s c.loop-numbers.numbers c.loop-numbers.group in
+    let on = sym c.is_finished.ensures ∙ c.loop-numbers-test.true in
+    rw c.read_token-s.ensures (one_fewer c.args.hours c.args.first c.args.line.now read on _ _ c.loop-numbers.invariant.0 c.loop-numbers.invariant.1)
 
 pub returns : goal.returns
-unfolding read_tokens
 returns c =
-    let e : c.loop-left.left ≡ 0 = omega arith in
-    c.read_token.ensures ∙ (rw e at c.loop-left.invariant.2)
+    let done = sym c.is_finished.ensures ∙ c.loop-numbers-test.false in
+    sym (tokens_done c.loop-numbers.invariant.0 c.args.hours c.args.first c.args.line.now _ done) ∙ c.loop-numbers.invariant.1

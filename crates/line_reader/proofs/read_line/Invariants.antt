@@ -1,13 +1,12 @@
--- Reading on from here gives the line as it is read from its start.
-use Rattle.std.proofs.Common.{◌≡◌, length}
-use Rattle.line_reader.specs.Lines.{line_read, read_token, read_tokens, read_line}
+-- Some tokens more give the line as it is read from its start.
+use Rattle.std.proofs.Common.{◌≡◌, ℕ}
+use Rattle.line_reader.specs.Lines.{line_read, read_tokens, read_line}
+use Rattle.line_reader.proofs.Ends.{left_of}
 use Rattle.line_reader.proofs.read_line.Given as goal
 
-abbrev pub invariant-loop-left : goal.invariant-loop-left
-invariant-loop-left l =
-    (length l.numbers ≡ length l.fn.numbers) × (length l.group ≡ length l.fn.group)
-    × (read_token l.hours l.first l.line (read_tokens l.left l.hours l.first l.line (line_read l.s l.numbers l.group))
-    ≡ read_line l.hours l.first l.line l.fn.numbers l.fn.group)
+abbrev pub invariant-loop-numbers : goal.invariant-loop-numbers
+invariant-loop-numbers l =
+    (n : ℕ) × (read_tokens n l.hours l.first l.line (line_read l.s l.numbers l.group) ≡ read_line l.hours l.first l.line l.fn.numbers l.fn.group)
 
-abbrev pub decreases-loop-left : goal.decreases-loop-left
-decreases-loop-left l = l.left
+abbrev pub decreases-loop-numbers : goal.decreases-loop-numbers
+decreases-loop-numbers l = left_of l.line l.s

@@ -5,4 +5,4 @@ use Rattle.marks.proofs.capacity_sum.Goals as goal
 
 pub returns : goal.returns
 unfolding capacity_sum
-returns c = let e : c.loop-h.h ≡ 744 = omega arith in rw e at c.loop-h.invariant.2
+returns c = let e : c.loop-h.h ≡ 744 = omega arith in rw e at c.loop-h.invariant.1

@@ -3,4 +3,4 @@ use Rattle.std.proofs.Common.{◌≡◌, arith}
 use Rattle.validity.proofs.years_fit.Goals as goal
 
 pub returns : goal.returns
-returns c = let e : c.loop-k.k ≡ 12 = omega arith in rw e at c.loop-k.invariant.1
+returns c = let e : c.loop-k.k ≡ 12 = omega arith in rw e at c.loop-k.invariant

@@ -1,11 +1,8 @@
 -- The flag says whether the years of the first k rows fit.
-use Rattle.std.proofs.Common.{◌≡◌, ◌-◌, ◌≤◌}
+use Rattle.std.proofs.Common.{◌≡◌}
 use Rattle.numbers.specs.Lists.{all_to}
 use Rattle.validity.specs.Valid.{year_fits}
 use Rattle.validity.proofs.years_fit.Given as goal
 
 abbrev pub invariant-loop-k : goal.invariant-loop-k
-invariant-loop-k l = (l.k ≤ 12) × (l.ok ≡ all_to (year_fits l.years l.d) l.k)
-
-abbrev pub decreases-loop-k : goal.decreases-loop-k
-decreases-loop-k l = 12 - l.k
+invariant-loop-k l = l.ok ≡ all_to (year_fits l.years l.d) l.k

@@ -4,5 +4,5 @@ use Rattle.grounds.proofs.hours.as_past.Goals as goal
 
 pub returns : goal.returns
 returns c =
-    past_found _ c.args.store.now c.args.row c.args.past c.args.t c.args.hours.now c.requires.0 c.clear.ensures
-    c.copy_past.ensures c.sum_first-volume.ensures
+    past_found _ c.args.store.now c.args.past.row c.args.past.hours c.args.t c.args.hours.now c.requires c.clear.ensures
+    c.copy_past.ensures c.sum_first.ensures

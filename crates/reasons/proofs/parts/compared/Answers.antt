@@ -2,32 +2,31 @@
 -- where they ask for it.
 use Rattle.std.proofs.Common.{arith, ◌∙◌}
 use Rattle.model.specs.Model.{inputs}
-use Rattle.first_ground.proofs.Laws.{known}
-use Rattle.reasons.proofs.Laws.{compared_due, compared_not}
+use Rattle.first_ground.proofs.Laws.{known_in}
+use Rattle.reasons.proofs.Laws.{compared_due, compared_none, compared_not}
 use Rattle.reasons.proofs.parts.compared.Goals as goal
 
-pub find_past-past-requires : goal.find_past-past-requires
-find_past-past-requires c = (known _ _ _ _ c.requires.hours_value).sound
+pub find_past-requires : goal.find_past-requires
+find_past-requires c = (known_in c.args.month.now c.requires).sound
 
-pub counted-requires : goal.counted-requires
-counted-requires c = (known _ _ _ _ c.requires.hours_value).run
+pub returns-in_default : goal.returns-in_default
+returns-in_default c = compared_none c.args.month.now.point c.args.month.now.store.now c.args.month.now.marks.now c.find_past.ensures c.in_default.is
 
-pub ground_six-requires-clause-buffers_fit : goal.ground_six-requires-clause-buffers_fit
-ground_six-requires-clause-buffers_fit c =
-    rw c.open_hours.ensures ((known _ _ _ _ c.requires.hours_value).buffers, c.find_past-past.ensures.fits)
+pub by_past-requires-clause-buffers_fit : goal.by_past-requires-clause-buffers_fit
+by_past-requires-clause-buffers_fit c = rw c.open_hours-t.ensures (known_in c.args.month.now c.requires).buffers
 
-pub ground_six-requires-clause-store_value : goal.ground_six-requires-clause-store_value
-ground_six-requires-clause-store_value c =
-    let k = known _ _ _ _ c.requires.hours_value in (k.fits, omega (arith, c.less-v.ensures, k.control))
+pub by_past-requires-clause-store_value : goal.by_past-requires-clause-store_value
+by_past-requires-clause-store_value c =
+    let k = known_in c.args.month.now c.requires in (k.fits, omega (arith, c.less-v.ensures, k.control))
 
 pub returns-then-due : goal.returns-then-due
 unfolding inputs
 returns-then-due c =
-    compared_due (known _ _ _ _ c.requires.hours_value) c.find_past-past.ensures c.requires.survey_value c.counted.ensures
-    c.if-due.true (c.less-v.ensures ∙ rw c.neighbour_volume.ensures) c.open_hours.ensures c.ground_six.ensures.hours
+    compared_due (known_in c.args.month.now c.requires) _ c.find_past.ensures c.in-Some.is c.args.month.now.surveyed c.counted.ensures
+    c.if-due.true (c.less-v.ensures ∙ rw c.neighbour.ensures) c.open_hours-t.ensures c.by_past.ensures.hours
     c.capacity_sum.ensures
 
 pub returns : goal.returns
 returns c =
-    compared_not (known _ _ _ _ c.requires.hours_value) c.find_past-past.ensures c.requires.survey_value c.counted.ensures
+    compared_not (known_in c.args.month.now c.requires) _ c.find_past.ensures c.in-Some.is c.args.month.now.surveyed c.counted.ensures
     c.if-due.false
