@@ -22,7 +22,7 @@ def error_numbers():
 
 def spoken(function):
     """The sentences of the function, by the numbers that it gives them to."""
-    body = re.search(rf"^pub fn {function}\(.*?^}}", text(WORDING), re.M | re.S)[0]
+    body = re.search(rf"^pub(?:\(crate\))? fn {function}\(.*?^}}", text(WORDING), re.M | re.S)[0]
     arms = re.findall(r'^ +([\w:]+) =>[\s{]*"([^"]*)"', body, re.M)
     return {int(case) if case.isdigit() else error_numbers()[case]: said for case, said in arms if case != "_"}
 

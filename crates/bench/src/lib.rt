@@ -1,4 +1,5 @@
-// What the benchmark times, exported on plain numbers and slices. Each function has the contract of the one behind it.
+// What the benchmark times, exported on plain numbers and slices, and with a flag for a Result, since C has neither the units
+// nor the Result. Each function has the contract of the one behind it.
 #![tactic(auto)]
 
 ghost use Rattle.std.specs.Prelude.{◌≡◌, ◌&&◌, length};

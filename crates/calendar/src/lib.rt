@@ -4,7 +4,7 @@ ghost use Rattle.std.specs.Prelude.{◌≡◌};
 ghost use Rattle.calendar.specs.Calendar.{is_month, month_days, february_days, SameLengths, month_hours, is_end, is_open, open_hours};
 ghost use Rattle.calendar.specs.Calendar.{month_number, is_month_number, month_in, date_given, date_in, next_in};
 
-// A month of a year. Months count from 1, January, to 12, December.
+// A month of a year. Months count from 1, January, to 12, December. C gives both numbers, so they may be any.
 #[repr(C)]
 #[derive(Clone, Copy, PartialEq, Eq, PartialOrd, Ord, Default)]
 pub struct Date {
@@ -42,7 +42,9 @@ pub fn is_month(d: Date) -> bool
     (1..=12).contains(&d.month) & (2014..=2999).contains(&d.year)
 }
 
-// The days of month `d`; 0 where it is none of the months that are calculated, so that any date may be asked for.
+// The days of month `d`; 0 where it is none of the months that are calculated. It is 0 and no Option, since the C function for
+// it gives that number. The place in the list is the month less 1, written where the month is known to be one, here and
+// elsewhere: a function for it would require that and promise the same difference.
 #[tactic(auto, using(crate::proofs::Laws::limits, crate::proofs::Laws::same_february), unfolding(crate::specs::Calendar::month_days))]
 pub fn month_days(d: Date) -> u32
     ensures { result ≡ month_days d }
@@ -92,7 +94,8 @@ pub fn is_open(d: Date) -> bool
     is_month(d) | is_end(d)
 }
 
-// T of a month that a record has open. January 3000 follows the last month that is closed, so it has its 744 hours here.
+// T of a month that a record has open. January 3000 follows the last month that is closed, so it has its 744 hours here. Where a
+// list is measured by it, it is cast, since usize has no From of 32 bits.
 #[tactic(auto, unfolding(crate::specs::Calendar::open_hours))]
 pub fn open_hours(d: Date) -> u32
     ensures { result ≡ open_hours d }
@@ -115,7 +118,8 @@ pub fn is_month_number(n: u64) -> bool
     (24169..=36000).contains(&n)
 }
 
-// The month whose number is `n`, from January 2014 to January 3000; any number may be asked for.
+// The month whose number is `n`, from January 2014 to January 3000; any number may be asked for. Year and month fit, as the
+// contract shows; `try_from` would bring a case that there is not.
 #[tactic(auto, unfolding(crate::specs::Calendar::month_in, crate::specs::Calendar::date_in, crate::specs::Calendar::date_of))]
 pub fn date_of(n: u64) -> Option<Date>
     ensures month { result ≡ month_in n }
@@ -130,7 +134,8 @@ pub fn date_of(n: u64) -> Option<Date>
     })
 }
 
-// The month after `d`; `d` itself where it is none of the months that are calculated, so that no date is left without an answer.
+// The month after `d`; `d` itself where it is none of the months that are calculated, so that no date is left without an answer:
+// a record always holds a month.
 #[tactic(auto, using(crate::proofs::Laws::limits), unfolding(crate::specs::Calendar::next_in, crate::specs::Calendar::next_month))]
 pub fn next_month(d: Date) -> Date
     ensures { result ≡ next_in d }

@@ -1,5 +1,6 @@
 // The calls on a point through C: each takes the record by value, the store and the hours as a pointer and a length, and
-// answers a struct by value. A wrapper has the contract of the call behind it.
+// answers a struct by value. A wrapper has the contract of the call behind it. The names, a function for each call, and the
+// numbers for a source and a reason are those of the C interface, which has no enum and no Result.
 ghost use Rattle.std.specs.Prelude.{[]};
 ghost use Rattle.rules.specs.Calls.Call.{billing_hours, billing_volume, control_hours, control_volume, neighbour};
 ghost use Rattle.rules.specs.Calls.Call.{failure, admission, denial, permission, closing};

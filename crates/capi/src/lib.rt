@@ -10,7 +10,7 @@ use calendar::Date;
 
 pub mod calls;
 
-// The cable formula for some hours, and 2^64 - 1 where a value is outside document 01's limits.
+// The cable formula for some hours, and 2^64 - 1 where a value is outside document 01's limits, since C has no Option.
 #[unsafe(no_mangle)]
 pub extern "C" fn sallowbingo_cable_formula(
     amperes: u64,
@@ -24,7 +24,7 @@ pub extern "C" fn sallowbingo_cable_formula(
     power::cable_formula(amperes, volts, cosine, phases, hours)
 }
 
-// The length of a month in days, and 0 outside January 2014 to December 2999.
+// The length of a month in days, and 0 outside January 2014 to December 2999, since C has no Option.
 #[tactic(auto, using(calendar::proofs::Laws::after_last, calendar::proofs::Laws::after_december))]
 #[unsafe(no_mangle)]
 pub extern "C" fn sallowbingo_month_days(year: u64, month: u64) -> u32

@@ -1,15 +1,16 @@
 // What a chart of the days of a month shows: the sums of its days, the largest of them, and how high a bar is.
 #![tactic(auto)]
 
-ghost use Rattle.std.specs.Prelude.{◌≡◌, ◌≤◌};
+ghost use Rattle.std.specs.Prelude.{◌≡◌};
 ghost use Rattle.charts.specs.Charts.{hour_of, day_sum, largest_day, reaches_above};
 
 use numbers::word_at;
 
-// An hour of a day, both counted from 0.
+// An hour of a day, both counted from 0. An hour outside the month is 0 and no Option, since `day_sum`, which alone asks for
+// it, adds nothing there.
 #[tactic(auto, unfolding(crate::specs::Charts::hour_of))]
-pub fn hour_of(hours: &[u32], day: usize, h: usize) -> u64
-    ensures { (result ≡ hour_of hours.now day h) × (result ≤ 4294967295) }
+pub fn hour_of(hours: &[u32], day: usize, h: usize) -> u32
+    ensures { result ≡ hour_of hours.now day h }
 {
     if day < 31 && h < 24 {
         word_at(hours, day * 24 + h)
@@ -18,14 +19,15 @@ pub fn hour_of(hours: &[u32], day: usize, h: usize) -> u64
     }
 }
 
-// The sum of the hours of a day.
+// The sum of the hours of a day. It and the largest day go by number, as their definitions do: as a chain over the range each
+// needs a proof several times as long.
 #[tactic(auto, unfolding(crate::specs::Charts::day_sum))]
 pub fn day_sum(hours: &[u32], day: usize) -> u64
     ensures { result ≡ day_sum hours.now day }
 {
     let mut sum = 0;
     for h in 0..24 {
-        sum += hour_of(hours, day, h);
+        sum += u64::from(hour_of(hours, day, h));
     }
     sum
 }

@@ -1,6 +1,6 @@
 -- The number of a closing, and what it leaves, as the model has them. Assumes nothing.
 use Prim.Native.Nat.{ℕ, ◌-◌, ◌≤◌}
-use mathlib.Core.Path.{◌≡◌, ◌∙◌}
+use mathlib.Core.Path.{◌≡◌, refl, sym, ◌∙◌}
 use mathlib.Core.Bool.{Bool, true, false, not, cond, ◌&&◌, ◌||◌}
 use mathlib.Core.List.{List, [], append-nil}
 use native.Mathlib.Omega.{arith}
@@ -76,7 +76,7 @@ store_left u s l = rw (row_again u.hours l)
 -- A CLOSING THAT IS ACCEPTED
 -- what an accepted closing knows of its record and buffers
 pub taken : (r : Record) (store marks buffer : List ℕ) → 0 ≡ refusal (state r store) (closing marks buffer) → Known r store marks buffer
-taken r store marks buffer e = known r store marks buffer (is_accepted _ _ e)
+taken r store marks buffer e = known r store marks buffer (is_accepted _ _ e refl)
 
 -- the figures that the code works out from the buffer
 figures_are : (u : Outcome) (marks : List ℕ) (t : ℕ) {f : Found} {hours : List ℕ} {c : Kwh} {d : ℕ} {g : Figures} → Right t u → t ≤ 744
@@ -97,7 +97,7 @@ pub figures_whole : (f : Found) (c : Kwh) (d : ℕ) {g : Figures} → g.ground �
     → g ≡ record { ground = ground_number f.ground; volume = f.volume; capacity = record { 0 = capacity_in c.0 d }; sum = c; days = d }
 figures_whole f c d a b e s t = rw (← a, ← b, ← e, ← s, ← t)
 
-pub closed_does : (s : State) (marks buffer : List ℕ) {t : ℕ} → 0 ≡ refusal s (closing marks buffer)
+pub closed_does : (s : State) (marks buffer : List ℕ) {number t : ℕ} → number ≡ refusal s (closing marks buffer) → number ≡ 0
     → Right t (rules (inputs s marks)) → t ≤ 744
     → {f : Found} {hours store : List ℕ} {c : Kwh} {d : ℕ} {g : Figures} {new : Bool} {r : Record} → OutcomeFound (rules (inputs s marks)) f hours
     → c.0 ≡ capacity_sum marks hours → d ≡ days_in marks
@@ -106,12 +106,13 @@ pub closed_does : (s : State) (marks buffer : List ℕ) {t : ℕ} → 0 ≡ refu
     → store ≡ store_after new hours s.point.date s.store
     → Does s (closing marks buffer) (record { refusal = 0; after = r; figures = g }) store hours
 unfolding answer leaves buffer_after figures_of hours_out accept closed_with becomes_past
-closed_does s marks buffer e right few {new = n} found total days figs past after left =
-    let t = is_accepted s (closing marks buffer) e in
+closed_does s marks buffer e z right few {new = n} found total days figs past after left =
+    let t = is_accepted s (closing marks buffer) e z in
+    let none : refusal s (closing marks buffer) ≡ 0 = sym e ∙ z in
     let u = rules (inputs s marks) in
     let new : n ≡ becomes_past u = past ∙ rw found.ground in
     record {
-      answered = rw (t, ← e, ← figures_are u marks _ right few found total days figs, after, new, found.volume);
+      answered = rw (t, none, ← figures_are u marks _ right few found total days figs, after, new, found.volume);
       left = left ∙ rw (t, new, found.hours) (store_left u s (omega (arith, right.long)));
       buffered = rw t found.hours;
     }

@@ -1,4 +1,5 @@
-// What a closing leaves: the record of the next month, and the store.
+// What a closing leaves: the record of the next month, and the store. `new` is the definition's parameter, whether the month
+// becomes the past. Each function takes another part of the closing, so what is known of that part is a clause.
 ghost use Rattle.std.specs.Prelude.{◌≡◌, true, cond, length, ◌≤◌};
 ghost use Rattle.calendar.specs.Calendar.{is_month};
 ghost use Rattle.units.specs.Volumes.{greatest_month_volume, greatest_total};
@@ -10,7 +11,8 @@ use record::{Past, Readings, Record, Service};
 use store::{clear_row, write_row};
 use units::Kwh;
 
-// Where the month becomes the past: its year in its row, and the latest past month.
+// Where the month becomes the past: its year in its row, and the latest past month. The row is one place of an array, for which
+// there is no struct update.
 #[tactic(auto, using(calendar::proofs::Laws::limits))]
 fn past_after(new: bool, p: Past, d: Date) -> Past
     requires { is_month d ≡ true }

@@ -7,7 +7,8 @@ ghost use Rattle.contract.specs.Contract.{meters_fit, is_agreed, keeping};
 use power::Cable;
 use units::Kw;
 
-// What the meters are and where the power comes from. The billing meter is 1 interval or 2 integral; the control meter
+// What the meters are and where the power comes from, in numbers as C gives them, so that 11 and 12 can refuse any.
+// The billing meter is 1 interval or 2 integral; the control meter
 // 0 none, 1 interval or 2 integral; the basis 1 an agreed power, 2 a share of an agreed power, 3 a cable.
 #[repr(C)]
 #[derive(Clone, Copy, PartialEq, Eq, Default)]
@@ -26,7 +27,7 @@ pub fn meters_fit(c: Contract) -> bool
     matches!(c.billing, 1 | 2) & (c.control <= 2)
 }
 
-// Whether a basis has an agreed power: 1 and 2.
+// Whether a basis has an agreed power: 1 and 2. It is asked of any number, before the basis is judged.
 pub fn is_agreed(basis: u32) -> bool
     ensures { result ≡ is_agreed basis }
 {

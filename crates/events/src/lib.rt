@@ -67,6 +67,7 @@ fn after_failure(s: Service, d: Date, reason: Reason) -> Service
     }
 }
 
+// The reason is the number that C gives, and is judged behind 1 to 3 and 30.
 #[tactic(auto, using(validity::proofs::Laws::fault_most), unfolding(model::proofs::Laws::call_definitions))]
 fn try_fail(r: Record, store: &mut [u32], reason: u32) -> Result<Record, Refusal>
     ensures { Gives (state r store.old) (failure reason) result store.new }
@@ -78,7 +79,8 @@ fn try_fail(r: Record, store: &mut [u32], reason: u32) -> Result<Record, Refusal
     Ok(discard(Record { service, ..r }, store))
 }
 
-// A failure of the billing meter: 1 fault, 2 loss, 3 verification interval over, 4 taken down.
+// A failure of the billing meter: 1 fault, 2 loss, 3 verification interval over, 4 taken down; C gives the reason as a number,
+// which 31 judges.
 #[tactic(auto, using(model::proofs::Laws::call_does), unfolding(model::proofs::Laws::call_definitions))]
 pub fn fail(r: Record, store: &mut [u32], reason: u32) -> Answer
     ensures { Does (state r store.old) (failure reason) result store.new [] }
@@ -133,6 +135,8 @@ pub fn deny(r: Record, store: &mut [u32]) -> Answer
     answer_of(try_deny(r, store), r)
 }
 
+// It is as `try_admit` with another test, another refusal and another field: with these three as parameters one function is
+// longer than both.
 #[tactic(auto, unfolding(model::proofs::Laws::call_definitions))]
 fn try_permit(r: Record, store: &[u32]) -> Result<Record, Refusal>
     ensures { Gives (state r store.now) permission result store.now }

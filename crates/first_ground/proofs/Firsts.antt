@@ -4,7 +4,6 @@ use mathlib.Core.Path.{◌≡◌, sym, subst, ◌∙◌}
 use mathlib.Core.Logic.{◌≢◌}
 use mathlib.Core.Bool.{Bool, true, false}
 use mathlib.Core.List.{List}
-use native.Mathlib.Nat.{mul-le-mul}
 use native.Mathlib.Omega.{arith}
 use borrow.Author.Tests.{eq-eqb, ne_eqb, le-leb, lt-leb}
 use lib.ListN.{length}
@@ -160,10 +159,6 @@ cable_power_is c b fits e = e ∙ rw (fits, eq-eqb _ _ b)
 pub agreed_power_is : (c : Contract) → c.basis ≢ 3 → c.power.0 ≡ power_of c
 unfolding power_of
 agreed_power_is c b = rw (ne_eqb _ _ b)
-
--- the products of ground 6's test fit 64 bits
-pub six_small : (x y k m : ℕ) → x ≤ k → y ≤ m → k * m ≤ 18446744073709551615 → x * y ≤ 18446744073709551615
-six_small x y k m l n most = omega (arith, mul-le-mul {m₁ = y} {m₂ = m} l n)
 
 -- the test of ground 6, from the buffer that ground 6 filled
 pub six_test : {r : Record} {store marks buffer : List ℕ} → Known r store marks buffer

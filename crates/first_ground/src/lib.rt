@@ -1,5 +1,6 @@
 // Which ground a month is closed on (document 01, 'Closing'): the first that fits, in the order of its table: 1, 2, 3, 4, 6,
-// 5, 7, 8, 9.
+// 5, 7, 8, 9. What is asked of a record's fields, `given`, `basis`, the kinds of meter and the denials, is asked of numbers: a
+// record crosses C with any bits, which number 2 judges.
 #![tactic(auto)]
 
 ghost use Rattle.std.specs.Prelude.{◌≡◌, true, ◌-◌, ◌*◌, ◌≤◌, min, length};
@@ -27,6 +28,7 @@ use rules::Ground;
 use units::{Kw, Kwh};
 
 // R: the run plus 1, and 3 if that is less while denials are 2.
+// It stays public beside the method of this name, and promises it of any such part of a record.
 #[tactic(auto, unfolding(rules::specs::Rules::counted_of))]
 pub fn counted(s: Service) -> u32
     requires { s.run ≤ 12000 }
@@ -36,7 +38,9 @@ pub fn counted(s: Service) -> u32
     if s.denials == 2 { next.max(3) } else { next }
 }
 
-// N: the first neighbour reading if given, else the second, else 0.
+// N: the first neighbour reading if given, else the second, else 0, which is document 01's value and not a sign of none: V is
+// taken less N.
+// It stays public beside the method, and promises it of any such part of a record.
 #[tactic(auto, using(crate::proofs::Firsts::neighbour_first, crate::proofs::Firsts::neighbour_second, crate::proofs::Firsts::neighbour_none))]
 pub fn neighbour_volume(g: Readings) -> Kwh
     ensures { result.0 ≡ neighbour_of (stated_in g.first) (stated_in g.second) }
@@ -50,7 +54,7 @@ pub fn neighbour_volume(g: Readings) -> Kwh
     }
 }
 
-// A reading less N, and 0 where that is below 0.
+// A reading less N, and 0 where that is below 0: document 01's max(0, ..), which `saturating_sub` is.
 pub fn less(volume: Kwh, neighbour: Kwh) -> Kwh
     ensures { result.0 ≡ volume.0 - neighbour.0 }
 {
@@ -58,6 +62,7 @@ pub fn less(volume: Kwh, neighbour: Kwh) -> Kwh
 }
 
 // P of the contract.
+// It stays public beside the method, and promises it of any contract.
 #[tactic(auto, using(crate::proofs::Firsts::cable_power_is, crate::proofs::Firsts::agreed_power_is))]
 pub fn point_power(c: Contract) -> Kw
     requires { c.basis ≡ 3 → cable_fits c.cable ≡ true }
@@ -69,7 +74,7 @@ pub fn point_power(c: Contract) -> Kw
     c.power
 }
 
-// The test of ground 6: n > 0, and A × d < n × C', so that no rounded capacity is compared.
+// The test of ground 6: n > 0, and A × d < n × C', so that no rounded capacity is compared. The cast of n is of a number that fits.
 fn six_fits(volume: Kwh, power: Kw, survey: Survey, sum: Kwh) -> bool
     requires { (volume.0 ≤ greatest_volume_read) × (survey.peaks ≤ 744) × (survey.days ≤ 31) × (sum.0 ≤ 4294967295) }
     ensures { result ≡ ground_six (min volume.0 (survey.peaks * power.0)) survey.days survey.peaks sum.0 }
@@ -78,6 +83,8 @@ fn six_fits(volume: Kwh, power: Kw, survey: Survey, sum: Kwh) -> bool
     (0 < survey.peaks) & (a.0 * survey.days < survey.peaks * sum.0)
 }
 
+// The hour buffer stands beside the month, since it is written while the month is read. It is the caller's list, which number
+// 44 has judged, so that it has 744 words is a clause.
 impl ClosingMonth<'_> {
     // T.
     fn hours(&self) -> usize

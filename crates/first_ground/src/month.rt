@@ -9,6 +9,7 @@ use marks::Survey;
 use record::Record;
 
 // A closing that is accepted: the record, the store, the marks and what they say. Of its hour buffer only the length counts.
+// The first three stand beside each other as a closing is given them: C hands over each by itself.
 #[derive(Clone, Copy)]
 pub struct ClosingMonth<'a> {
     pub point: Record,

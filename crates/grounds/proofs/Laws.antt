@@ -1,9 +1,9 @@
 -- What each way of finding hours finds. Assumes nothing.
-use Prim.Native.Nat.{ℕ, ◌+◌, ◌-◌, ◌*◌, ◌≤◌, ◌<◌}
+use Prim.Native.Nat.{ℕ, ◌-◌, ◌*◌, ◌≤◌, ◌<◌}
 use mathlib.Core.Path.{◌≡◌, refl, ◌∙◌}
 use mathlib.Core.Bool.{Bool, true, false, ◌&&◌}
 use mathlib.Core.List.{List}
-use native.Mathlib.Nat.{add-sub_cancel_left, mul_comm, mul-le-mul}
+use native.Mathlib.Nat.{mul_comm, mul-le-mul}
 use native.Mathlib.Omega.{arith}
 use borrow.Author.Tests.{le-leb, eq-eqb}
 use lib.Dec.{ltb}
@@ -40,14 +40,15 @@ read_found g store r t buffer l row e f =
     record { ground = refl; volume = f ∙ rw filled (sum_row (row_part store r t) t long); hours = filled }
 
 -- as the past's
-pub past_found : (g : Ground) (store : List ℕ) (r past t : ℕ) (buffer : List ℕ) {cleared after : List ℕ} {v : ℕ} → BuffersFit store buffer t
-    → cleared ≡ zeros (length buffer) → Filled (past_at (take (744 * r + past - 744 * r) (drop (744 * r) store))) cleared after t
+pub past_found : (g : Ground) (store : List ℕ) (r past t : ℕ) (buffer : List ℕ) {part cleared after : List ℕ} {v : ℕ} → BuffersFit store buffer t
+    → part ≡ row_part store r past → cleared ≡ zeros (length buffer) → Filled (past_at part) cleared after t
     → v ≡ sum_to (at after) t
-    → HoursFound (ground_number g) (sum (stretched (row_part store r past) t)) (stretched (row_part store r past) t) (record { ground = g; volume = record { 0 = v } }) after
+    → HoursFound (ground_number g) (sum (stretched (row_part store r past) t)) (stretched (row_part store r past) t)
+    (record { ground = g; volume = record { 0 = v } }) after
 unfolding stretched
-past_found g store r past t buffer l e filled f =
+past_found g store r past t buffer l p e filled f =
     let w = past_at (row_part store r past) in
-    let made = filled_padded (length buffer) (rw (add-sub_cancel_left (744 * r) past) at filled) e in
+    let made = filled_padded (length buffer) (rw p at filled) e in
     let hours = rw l.room at made in
     record { ground = refl; volume = f ∙ rw hours (sum_row (tab t w) t (length_tab t w)); hours = hours }
 

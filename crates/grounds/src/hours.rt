@@ -17,7 +17,7 @@ use numbers::{clear, sum_first};
 use rules::Ground;
 use sharing::share_evenly;
 use sharing::weights::past_at;
-use store::read_row;
+use store::{read_row, row_hours};
 use units::{Kw, Kwh};
 
 // The hours of a row as read; the volume is their sum. Grounds 1 and 3.
@@ -30,14 +30,15 @@ pub fn as_read(ground: Ground, store: &[u32], row: usize, t: usize, hours: &mut 
     Found { ground, volume }
 }
 
-// Hours 0 to t - 1 of the past, its hour h - 168 where it lacks hour h, into the front of a buffer.
+// Hours 0 to t - 1 of the past, its hour h - 168 where it lacks hour h, into the front of a buffer. It goes by the number of the
+// hour, which says which hour of the past is due.
 #[tactic(auto, using(numbers::proofs::Laws::filled_none, numbers::proofs::Laws::filled_end))]
 fn copy_past(past: &[u32], t: usize, hours: &mut [u32])
     requires { t ≤ length hours.old }
     ensures { Filled (past_at past.now) hours.old hours.new t }
 {
     for h in 0..t {
-        hours[h] = past_at(past, h) as u32;
+        hours[h] = past_at(past, h);
     }
 }
 
@@ -48,10 +49,8 @@ pub fn as_past(ground: Ground, store: &[u32], past: PastMonth, t: usize, hours: 
         (stretched (row_part store.now past.row past.hours) t)
         result hours.new }
 {
-    let start = 744 * past.row;
-    let end = start + past.hours;
     clear(hours);
-    copy_past(&store[start..end], t, hours);
+    copy_past(row_hours(store, past.row, past.hours), t, hours);
     let volume = Kwh(sum_first(hours, t));
     Found { ground, volume }
 }

@@ -1,5 +1,7 @@
 // The nine grounds of a closing (document 01, 'Closing'), by how their hours are found. Each function puts its hours into the
-// buffer. Which of them a month is closed on is decided where it is closed.
+// buffer. Which of them a month is closed on is decided where it is closed. Store, buffer and T stand side by side in the contracts:
+// a struct would hold the buffer that the caller reads behind the call, and would be taken apart there. So their limits are clauses,
+// and that of a volume too: a `Kwh` is also a month's volume and a total, which are greater.
 #![tactic(auto)]
 
 ghost use Rattle.std.specs.Prelude.{◌≡◌, true, ◌*◌, ◌≤◌, length};
@@ -24,7 +26,7 @@ pub struct Found {
     pub volume: Kwh,
 }
 
-// Ground 8: basis 1 or 2. P × T evenly.
+// Ground 8: basis 1 or 2. P × T evenly. It and ground 9 differ in how the volume is found; what they share is `evenly`.
 pub fn ground_eight(power: Kw, t: u32, hours: &mut [u32]) -> Found
     requires { (power.0 ≤ 1000000) × (1 ≤ t) × (t ≤ 744) × (length hours.old ≡ 744) }
     ensures { HoursFound 8 (t * power.0) (shares (t * power.0) (ones t)) result hours.new }

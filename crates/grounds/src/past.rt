@@ -11,7 +11,7 @@ use super::PastMonth;
 use calendar::{Date, date_of, open_hours};
 use record::Record;
 use sharing::{Unfit, share_by_past};
-use store::row_fits;
+use store::{row_fits, row_hours};
 use units::Kwh;
 
 // A past month, which stands in its calendar month's row.
@@ -73,7 +73,5 @@ pub fn share_by_row(
     if !row_fits(store.len(), row, t) {
         return Err(Unfit);
     }
-    let start = 744 * row;
-    let end = start + t;
-    share_by_past(volume, &store[start..end], chosen, hours)
+    share_by_past(volume, row_hours(store, row, t), chosen, hours)
 }

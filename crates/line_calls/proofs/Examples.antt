@@ -15,11 +15,11 @@ use Rattle.line_reader.specs.Codes.{index_of}
 use Rattle.line_reader.specs.Changes.{with_call, with_value}
 use Rattle.line_reader.specs.Modes.{value_in}
 use Rattle.line_reader.specs.Lines.{fresh_line}
-use Rattle.line_calls.specs.Calls.{argument_of, field_of, cable_by, asked_by, date_by, opening_by, marks_from, call_as, call_by}
+use Rattle.line_calls.specs.Calls.{argument_of, field_of, cable_by, asked_by, date_by, opening_by, marks_in, marks_from, call_as, call_by}
 use Rattle.line_calls.specs.Week.{first_weekday}
 
 unfoldable call_definitions : Unit {0}
-unfolding call_by call_as opening_by date_by asked_by cable_by field_of argument_of value_in index_of marks_from
+unfolding call_by call_as opening_by date_by asked_by cable_by field_of argument_of value_in index_of marks_in marks_from
 call_definitions = tt
 
 abbrev on : ℕ → ℕ → Date

@@ -44,12 +44,15 @@ date_by line = record { year = field_of key.Year line; month = field_of key.Mont
 unfoldable pub opening_by : Line → List ℕ → Opening
 opening_by line list = record { asked = asked_by line; date = date_by line; currents = list; place = argument_of key.Place line }
 
--- the marks of a closing: a byte for each number of the list, up to 4,096
+-- the marks of a closing: a byte for each number of the list, as many as there is room for, which is 4,096
 abbrev pub mark_at : List ℕ → ℕ → ℕ
 mark_at list k = at list k % 256
 
+unfoldable pub marks_in : ℕ → List ℕ → List ℕ
+marks_in room list = tab (min (length list) room) (mark_at list)
+
 unfoldable pub marks_from : List ℕ → List ℕ
-marks_from list = tab (min (length list) 4096) (mark_at list)
+marks_from list = marks_in 4096 list
 
 pub record Copied (list before after : List ℕ) (n : ℕ) : Type 0 where
   pub size : n ≡ min (length list) (length before)

@@ -5,7 +5,7 @@ ghost use Rattle.std.specs.Prelude.{◌≡◌, length};
 ghost use Rattle.rules.specs.Calls.Call.{closing};
 ghost use Rattle.model.specs.Model.{state, Does};
 ghost use Rattle.model.specs.Opening.{Opens};
-ghost use Rattle.line_calls.specs.Calls.{argument_of, field_of, cable_by, asked_by, date_by, opening_by, Copied, marks_from, Makes};
+ghost use Rattle.line_calls.specs.Calls.{argument_of, field_of, cable_by, asked_by, date_by, opening_by, Copied, marks_in, marks_from, Makes};
 
 pub mod week;
 
@@ -24,7 +24,8 @@ use readings::{
 use record::Record;
 use units::{Kw, Kwh};
 
-// The value of an argument, 0 where it is not given.
+// The value of an argument. One that is left out counts as 0, as a history file has it, and is no None, since 0 is what an
+// opening judges by numbers 11 to 14.
 #[tactic(auto, unfolding(crate::specs::Calls::argument_of))]
 fn argument(line: Line, key: Argument) -> u64
     ensures { result ≡ argument_of key line }
@@ -32,7 +33,7 @@ fn argument(line: Line, key: Argument) -> u64
     line.value_of(key).unwrap_or(0)
 }
 
-// The same in 32 bits, which a line keeps it to.
+// The same in 32 bits, which a line keeps it to. It fits, as the contract shows; `try_from` would bring a case that there is not.
 #[tactic(auto, unfolding(crate::specs::Calls::field_of))]
 fn field(line: Line, key: Argument) -> u32
     ensures { result ≡ field_of key line }
@@ -78,7 +79,8 @@ fn date_by(line: Line) -> Date
     }
 }
 
-// Opens a point as a line says; the list is that of the currents.
+// Opens a point as a line says; the list is that of the currents. Here and below a list stands beside its line, in memory
+// of the caller's of a fixed size, since there is no heap.
 #[tactic(auto, unfolding(crate::specs::Calls::opening_by))]
 pub fn open_by(line: Line, list: &[u32], store: &mut [u32]) -> Answer
     ensures { Opens (opening_by line list.now) store.old result store.new }
@@ -89,36 +91,40 @@ pub fn open_by(line: Line, list: &[u32], store: &mut [u32]) -> Answer
     open_point(asked, date, list, place, store)
 }
 
-// Room for marks.
-pub fn no_marks() -> [u8; 4096]
-    ensures { 4096 ≡ length result }
-{
-    [0; 4096]
-}
-
-// The numbers of a list as marks, one byte each, as many as there is room for; the answer is how many. A line keeps marks
-// to a byte.
+// The numbers of a list as marks, one byte each, as many as there is room for; the answer is how many, and behind them the room
+// stays as it was. A line keeps marks to a byte, so the cast is of a number that fits. The room goes by its index, since a loop
+// over a `zip` of both has no contract.
 pub fn copy_marks(list: &[u32], marks: &mut [u8]) -> usize
     ensures { Copied list.now marks.old marks.new result }
 {
     let n = list.len().min(marks.len());
-    for k in 0..n {
-        marks[k] = (list[k] % 256) as u8;
+    for (k, number) in list[..n].iter().enumerate() {
+        marks[k] = (*number % 256) as u8;
     }
     n
 }
 
-// Closes the month with the marks of a list.
+// The marks of a list, written into room that is lent for them. What the room has behind them is a promise of `copy_marks`,
+// since no clause can speak of the rest of a room of which a part is lent on.
 #[tactic(auto, using(crate::proofs::Marks::marks_made))]
+pub fn lend_marks<'a>(list: &[u32], room: &'a mut [u8]) -> &'a [u8]
+    ensures { result.now ≡ marks_in (length room.old) list.now }
+{
+    let n = copy_marks(list, room);
+    &room[..n]
+}
+
+// Closes the month with the marks of a list.
+#[tactic(auto, unfolding(crate::specs::Calls::marks_from))]
 fn close_by(list: &[u32], r: Record, store: &mut [u32], hours: &mut [u32]) -> Answer
     ensures { Does (state r store.old) (closing (marks_from list.now) hours.old) result store.new hours.new }
 {
-    let mut marks = no_marks();
-    let n = copy_marks(list, &mut marks);
-    close(r, store, &marks[..n], hours)
+    let mut marks = [0; 4096];
+    close(r, store, lend_marks(list, &mut marks), hours)
 }
 
-// Makes the call of a line that is no opening, on a point. The list is that of the line.
+// Makes the call of a line that is no opening, on a point. The list is that of the line. The calls are a closed set, and the
+// match names the function of each, which a table of functions would have no contract for.
 #[tactic(auto, unfolding(crate::specs::Calls::call_by, crate::specs::Calls::call_as, rules::specs::Calls::is_closing))]
 pub fn make_call(
     line: Line,

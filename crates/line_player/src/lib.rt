@@ -7,7 +7,7 @@ ghost use Rattle.line_player.specs.Played.{other_call_leaves, call_leaves, read_
 
 use calendar::open_hours;
 use line_calls::week::first_weekday;
-use line_calls::{copy_marks, make_call, open_by};
+use line_calls::{lend_marks, make_call, open_by};
 use line_reader::{Call, Error, Line, read_line};
 use model::Answer;
 use reasons::reasons_of;
@@ -30,8 +30,7 @@ pub struct Player<const N: usize> {
 fn why(list: &[u32], r: Record, store: &[u32]) -> Option<Reasons> {
     let mut hours = [0; 744];
     let mut marks = [0; 4096];
-    let n = copy_marks(list, &mut marks);
-    reasons_of(r, store, &marks[..n], &mut hours)
+    reasons_of(r, store, lend_marks(list, &mut marks), &mut hours)
 }
 
 // The answer of a call that is no opening and no closing.
@@ -42,7 +41,8 @@ fn other_answer(read: Line, list: &[u32], r: Record, store: &mut [u32]) -> Answe
     make_call(read, list, r, store, &mut hours)
 }
 
-// The answer of a call that is no closing.
+// The answer of a call that is no closing. The calls are a closed set, of which a match names the one that is apart; the list
+// stands beside its line, in memory of a fixed size, since there is no heap.
 #[tactic(auto, unfolding(crate::specs::Played::call_leaves, line_reader::specs::Modes::is_opening))]
 fn answer_of(read: Line, list: &[u32], r: Record, store: &mut [u32]) -> Answer
     ensures { state result.after store.new ≡ call_leaves read list.now (state r store.old) }
@@ -97,7 +97,7 @@ impl<const N: usize> Player<N> {
         }
     }
 
-    // The call of a line that was read, with its list.
+    // The call of a line that was read, with its list. The match names the one call of the closed set that writes a sheet.
     #[tactic(auto, unfolding(crate::specs::Played::call_leaves, line_reader::specs::Modes::is_opening))]
     fn play_call(&mut self, read: Line, call: Call, list: &[u32], store: &mut [u32])
         requires { read.call ≡ Some call }

@@ -118,7 +118,7 @@ error_never_0 e z = absurd (omega (arith, error_some e, z))
 ended : (s : Line) (m : Mode) → s.mode ≡ m → is_finished m ≡ true → Ended s
 unfolding is_finished fault_of fault_in fault_number
 ended s mode.Read e f = inl (e, rw e)
-ended s (mode.Failed fault) e f = inr (λ r. cc (e, r), rw e (error_never_0 fault.error))
+ended s (mode.Failed fault) e f = inr ((fault, e), rw e (error_never_0 fault.error))
 ended s mode.Call e f = absurd (false≢true f)
 ended s _ e f = absurd (false≢true f)
 

@@ -1,3 +1,5 @@
 pub mod Ends
 pub mod Examples
 pub mod Finished
+pub mod Parts
+pub mod Written

@@ -98,4 +98,6 @@ fault_number None = 0
 
 -- a line that is read has no error, and one that failed has one
 abbrev pub Ended : Line → Type 0
-Ended s = ((s.mode ≡ mode.Read) × (fault_number (fault_of s) ≡ 0)) ⊎ ((s.mode ≢ mode.Read) × (fault_number (fault_of s) ≢ 0))
+Ended s =
+    ((s.mode ≡ mode.Read) × (fault_number (fault_of s) ≡ 0))
+    ⊎ (((fault : Fault) × (s.mode ≡ mode.Failed fault)) × (fault_number (fault_of s) ≢ 0))

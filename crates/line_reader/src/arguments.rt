@@ -134,7 +134,8 @@ impl Line {
         self.values[key.index()]
     }
 
-    // The word of an argument, with its place.
+    // The word of an argument, with its place. The list of currents has no number; 0 says that it was named, since a second naming
+    // is asked of the values.
     #[tactic(auto, unfolding(crate::specs::Modes::named_as, crate::specs::Modes::asked_for))]
     pub(crate) fn named(self, key: Option<Argument>, place: usize) -> Line
         ensures { result ≡ named_as key place self }

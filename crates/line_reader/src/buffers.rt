@@ -1,13 +1,15 @@
 // What a token adds to the list, by its action. The numbers between parentheses stand in a buffer of their own until the
 // parentheses close.
 ghost use Rattle.std.specs.Prelude.{◌≡◌, ℕ, length};
-ghost use Rattle.numbers.specs.Lists.{at, Filled};
+ghost use Rattle.numbers.specs.Lists.{Filled};
 ghost use Rattle.line_reader.specs.Buffers.{place_for, part, written_numbers, written_group};
 
 use super::{Action, Numbers};
+use numbers::word_at;
 
 // The place between the parentheses from which hour k comes: round and round, or by the day of the week, of which Monday
-// is 0 and Saturday and Sunday have the second day.
+// is 0 and Saturday and Sunday have the second day. `week` is the definition's own parameter. The day `first` is a number, since
+// the days are counted on from it.
 #[tactic(auto, unfolding(crate::specs::Buffers::place_for))]
 fn place_for(week: bool, inner: u32, first: u32, k: usize) -> usize
     ensures { result ≡ place_for week inner first k }
@@ -19,14 +21,8 @@ fn place_for(week: bool, inner: u32, first: u32, k: usize) -> usize
         }
         return k % 24;
     }
+    // It is 0 where there are no numbers: nothing is written then, so the place is not read.
     if inner == 0 { 0 } else { k % inner as usize }
-}
-
-// A word, 0 past the last one.
-fn word_at(words: &[u32], k: usize) -> u32
-    ensures { result ≡ at words.now k }
-{
-    words.get(k).copied().unwrap_or(0)
 }
 
 // Every word becomes what `value` says of its place.
@@ -48,13 +44,14 @@ fn write_part<F: Fn(usize) -> u32>(words: &mut [u32], from: u32, to: u32, value:
 {
     let a = from as usize;
     let b = to as usize;
+    // Tested by hand: with `get_mut(a..b)` the proof did not close.
     if a <= b && b <= words.len() {
         write_each(&mut words[a..b], value);
     }
 }
 
 // Writes what a token adds to the list, from the list before it and behind it.
-#[tactic(auto, unfolding(crate::specs::Buffers::written_numbers, crate::specs::Buffers::written_group, crate::specs::Buffers::listed, crate::specs::Buffers::grouped))]
+#[tactic(auto, unfolding(crate::proofs::Written::written_definitions))]
 pub(crate) fn write(
     before: Numbers,
     after: Numbers,
@@ -66,6 +63,7 @@ pub(crate) fn write(
     ensures group_after { group.new ≡ written_group before after group.old }
 {
     let (from, to, inner) = (before.count, after.count, before.inner);
+    // A `match`, since the actions are closed and hold what is written: each names the call that follows
     match after.action {
         Some(Action::Number(value)) => write_part(numbers, from, to, |_| value),
         Some(Action::InGroup(value)) => write_part(group, inner, after.inner, |_| value),

@@ -20,7 +20,7 @@ pub enum Call {
 }
 
 impl Call {
-    // Its number in the answers for programs.
+    // Its number in the answers for programs, whose records are numbers alone.
     #[tactic(auto, unfolding(crate::specs::Codes::call_number))]
     pub fn number(self) -> u32
         ensures { result ≡ call_number self }

@@ -28,7 +28,7 @@ pub enum Error {
 }
 
 impl Error {
-    // The number of its sentence.
+    // The number of its sentence: the answers for programs, whose records are numbers alone, have it.
     #[tactic(auto, unfolding(crate::specs::Codes::error_number))]
     pub fn number(self) -> u32
         ensures { result ≡ error_number self }

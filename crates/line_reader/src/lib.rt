@@ -60,6 +60,9 @@ pub enum Action {
 // The list of numbers that a line brings, as far as it is read: the largest number that it takes; how many numbers it has,
 // and how many stand between the parentheses that are open; the count that was read last, and that of the parentheses;
 // their depth; whether a part is still missing; what the token adds.
+// The numbers stand in two lists of the caller beside the line: fixed memory, no heap, and the line stays a small value.
+// 0 is a count like any other, and `times` and `repeat` are read only behind a count, which sets them: an Option would be no
+// plainer.
 #[derive(Clone, Copy, Debug, PartialEq, Eq)]
 pub struct Numbers {
     pub limit: u64,
@@ -135,6 +138,7 @@ impl Line {
         match t.kind {
             Kind::Foreign => self.fail(Error::Foreign, t.from),
             Kind::Long => self.fail(Error::Large, t.from),
+            // A `match`, since the modes are closed and hold what is read next: each names the function that follows
             _ => match self.mode {
                 Mode::Call => self.in_call(t),
                 Mode::Value(key) => self.in_value(t, key),
@@ -188,6 +192,8 @@ fn read_token(
 
 // Reads a line: the call and its arguments, or the error, and its list into `numbers`. `hours` is T of the open month and
 // `first` the day of the week of its first day, Monday 0. `group` is room for numbers between parentheses.
+// Both lists are lent beside the line: they are the caller's fixed memory, and a list in the line would be copied with it. T goes
+// on without the weekday, which only the writing asks for.
 pub fn read_line(
     line: &[u8],
     hours: u32,
@@ -198,6 +204,7 @@ pub fn read_line(
     ensures { line_read result numbers.new group.new ≡ read_line hours first line.now numbers.old group.old }
 {
     let mut s = fresh_line();
+    // a `while`, since it counts nothing: how many tokens a line has is known at its end only
     while !s.mode.is_finished() {
         s = read_token(line, s, hours, first, numbers, group);
     }

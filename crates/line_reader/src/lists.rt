@@ -16,7 +16,8 @@ fn short(x: u64) -> u32
     x.min(4096) as u32
 }
 
-// The low 32 bits of a number, which a list takes whole: its limit is below.
+// The low 32 bits of a number, which is all of it, since no list takes more. Here and in `short` it fits, as the contract shows;
+// `try_from` would bring a case that there is not.
 fn low(x: u64) -> u32
     ensures { result ≡ x % 4294967296 }
 {

@@ -28,7 +28,7 @@ pub enum Argument {
 }
 
 impl Argument {
-    // Its place among the values.
+    // Its place among the values: a number, since it is the index of an array.
     #[tactic(auto, unfolding(crate::specs::Codes::index_of))]
     pub(crate) fn index(self) -> usize
         ensures place { result ≡ index_of self }
@@ -78,6 +78,7 @@ pub(crate) fn key_of(word: Word) -> Option<Argument>
 }
 
 // The kind of a meter that a word stands for.
+// A number, here and below, since the grammar lets any number stand for the word: refusals 11, 12, 20 and 31 judge it.
 #[tactic(auto, unfolding(crate::specs::Names::meter_word))]
 fn meter_word(word: Word) -> Option<u64>
     ensures { result ≡ meter_word word }

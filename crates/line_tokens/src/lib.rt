@@ -1,9 +1,11 @@
-// The tokens of a line of a history file (docs/HISTORY-FILE.md, 'Words of a line').
+// The tokens of a line of a history file (docs/HISTORY-FILE.md, 'Words of a line'). A place in the line is a number, since the column
+// of an error is one, and stands beside the line in each function.
 #![tactic(auto)]
 
 ghost use Rattle.std.specs.Prelude.{◌≡◌, ◌≤◌, ◌-◌, length};
 ghost use Rattle.std.specs.List.{prefix_len};
-ghost use Rattle.line_tokens.specs.Tokens.{class_of, is_of, run_from, span_from, byte_at, place_behind, value_of, single_kind, number_token, word_token, token_at};
+ghost use Rattle.line_tokens.specs.Tokens.{class_of, is_of, run_from, span_from, byte_at, place_behind, value_of, single_kind};
+ghost use Rattle.line_tokens.specs.Tokens.{number_token, word_token, token_at};
 
 pub mod words;
 
@@ -99,7 +101,7 @@ pub fn span(line: &[u8], from: usize, class: Class) -> usize
     from + run(line, from, class).len()
 }
 
-// A byte of the line; past its end the byte that ends it.
+// A byte of the line; past its end the byte that ends it, which is what stands for none in the definition as well.
 #[tactic(auto, unfolding(crate::specs::Tokens::byte_at))]
 fn byte_at(line: &[u8], i: usize) -> u8
     ensures { result ≡ byte_at line.now i }

@@ -37,7 +37,7 @@ pub enum Word {
     Removal,
 }
 
-// All of them.
+// All of them: Rattle does not list the cases of an enum, and `rt ci` refuses a derive of the project's own.
 const WORDS: [Word; 30] = [
     Word::Open,
     Word::Billing,

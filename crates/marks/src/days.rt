@@ -13,28 +13,31 @@ pub struct Day {
     pub capacities: u32,
 }
 
-// Whether a mark is a planned peak.
+// Whether a mark is a planned peak. A mark is a byte, as C lends a month's marks: 1 a planned peak, 2 a capacity hour, 3 both;
+// number 41 refuses one above 3.
 pub fn is_peak(mark: u8) -> bool
     ensures { result ≡ is_peak mark }
 {
     (mark == 1) | (mark == 3)
 }
 
-// Whether a mark is a capacity hour.
+// Whether a mark is a capacity hour. Each of the two has its definition's name in its contract; one function with the two marks
+// as parameters is no plainer.
 pub fn is_capacity(mark: u8) -> bool
     ensures { result ≡ is_capacity mark }
 {
     (mark == 2) | (mark == 3)
 }
 
-// Whether no mark is above 3.
+// Whether no mark is above 3. It stays as it was public; it is `none_above` at 3, with the definition in its contract.
 pub fn none_high(marks: &[u8]) -> bool
     ensures { result ≡ none_above 3 marks.now }
 {
     none_above(marks, 3)
 }
 
-// How many of up to 744 marks are planned peaks, counted in 32 bits, so that more marks are taken at a time.
+// How many of up to 744 marks are planned peaks, counted in 32 bits, so that more marks are taken at a time. The limit is a clause:
+// a type for it would be made of the slice at every call.
 pub(crate) fn count_peaks(marks: &[u8]) -> u32
     requires { length marks.now ≤ 744 }
     ensures is { result ≡ count_to (peak_at marks.now) (length marks.now) }
@@ -43,7 +46,7 @@ pub(crate) fn count_peaks(marks: &[u8]) -> u32
     marks.iter().map(|mark| u32::from(is_peak(*mark))).sum()
 }
 
-// How many are capacity hours.
+// How many are capacity hours. A count with the test as a parameter has a longer contract than these two together.
 fn count_capacities(marks: &[u8]) -> u32
     requires { length marks.now ≤ 744 }
     ensures { result ≡ count_to (capacity_at marks.now) (length marks.now) }
@@ -89,17 +92,15 @@ impl Day {
     }
 }
 
-// Day by day, whether 42 and 43 apply, n and d.
+// Day by day, whether 42 and 43 apply, n and d. It goes by the number of the day, by which the definition asks for the
+// marks of a day: a loop over `chunks_exact` needs a law of the part that a day is, and is no plainer.
 #[tactic(auto, unfolding(crate::specs::Marks::survey_with, crate::specs::Marks::crowded, crate::specs::Marks::unmatched, crate::specs::Marks::working_days))]
 pub fn survey_days(marks: &[u8], high: bool) -> Survey
     ensures { result ≡ survey_with marks.now high }
 {
     let mut survey = Survey {
         high,
-        crowded: false,
-        unmatched: false,
-        peaks: 0,
-        days: 0,
+        ..Survey::default()
     };
     for k in 0..marks.len() / 24 {
         let day = Day::of(&marks[24 * k..24 * k + 24]);

@@ -7,7 +7,8 @@ use super::days::{count_peaks, is_peak};
 use sharing::{Unfit, share_apart};
 use units::{Kw, Kwh, energy};
 
-// The peak hours of up to 744 marks as flags.
+// The peak hours of up to 744 marks as flags, in an array of its own, since there is no heap. They are written by place: the
+// array is longer than the marks, and what is behind them stays.
 #[tactic(auto, using(crate::proofs::Flag::flags_none, crate::proofs::Flag::flags_more))]
 fn flag_peaks(marks: &[u8]) -> [bool; 744]
     requires { length marks.now ≤ 744 }
@@ -20,7 +21,8 @@ fn flag_peaks(marks: &[u8]) -> [bool; 744]
     flags
 }
 
-// A: what of the volume the peak hours take at the power, of which there are n.
+// A: what of the volume the peak hours take at the power, of which there are n. It is the least of two numbers, as the contract
+// says it; `min` of two volumes would promise it by their order.
 pub fn peak_part(volume: Kwh, n: u32, power: Kw) -> Kwh
     ensures { result.0 ≡ min volume.0 (n * power.0) }
 {

@@ -1,11 +1,12 @@
 -- What a call does, from the number that it returns. Assumes nothing.
 use Prim.Native.Nat.{ℕ, ◌≤◌, ◌<◌}
-use mathlib.Core.Path.{◌≡◌, refl, sym}
+use mathlib.Core.Path.{◌≡◌, refl, sym, ◌∙◌}
+use mathlib.Core.Logic.{◌≢◌}
 use Rattle.std.specs.Prelude.{Result, Ok, Err}
 use mathlib.Core.Bool.{Bool, true, false, not, ◌&&◌, ◌||◌, true≢false}
 use mathlib.Core.List.{List, []}
 use native.Mathlib.Omega.{arith}
-use borrow.Author.Tests.{eq-eqb, eqb-true, not-false}
+use borrow.Author.Tests.{eq-eqb, ne_eqb, eqb-true, not-false}
 use lib.Dec.{eqb, lit<}
 use lib.ListN.{length}
 use Rattle.numbers.proofs.Laws.{by_cases, both}
@@ -22,9 +23,10 @@ use Rattle.rules.specs.Calls.{permission, closing, is_closing, buffer_of}
 use Rattle.rules.specs.Rules.{no_figures}
 use Rattle.model.specs.Refusals.{refuse, refuse_anyone, refuse_reading, not_month, open_refusal, own_refusal}
 use Rattle.model.specs.Model.{State, accept, refusal, accepted, leaves, without_figures, figures_of, hours_out, answer, buffer_after, Does}
+use Rattle.model.specs.declared.Answer.{Answer}
 use Rattle.model.specs.declared.refusals.Refusal.{Refusal}
 use Rattle.model.specs.Refused.{refusal_number, Gives, answered, GivesPoint}
-use Rattle.model.specs.Opening.{opens, open_leaves, open_answer, Opens}
+use Rattle.model.specs.Opening.{opens, opened, open_leaves, open_answer, Opens}
 
 -- no number: the test did not apply, and the rest of the list gives none either
 pub skip : {test : Bool} {number rest : ℕ} → 0 < number → refuse test number rest ≡ 0 → (test ≡ false) × (rest ≡ 0)
@@ -73,25 +75,36 @@ unfolding refuse own_refusal refusal accept is_closing
 call_definitions = tt
 
 -- a refusal has a number
-pub numbered : (e : Refusal) → eqb (refusal_number e) 0 ≡ false
-numbered e = grind arith
+pub numbered : (e : Refusal) → refusal_number e ≢ 0
+numbered e z = absurd (grind arith)
 
--- a call is accepted where no refusal applies, and else refused
-pub is_accepted : (s : State) (c : Call) → 0 ≡ refusal s c → accepted s c ≡ true
+-- a call is accepted where no number applies, and else refused
+pub is_accepted : (s : State) (c : Call) {n : ℕ} → n ≡ refusal s c → n ≡ 0 → accepted s c ≡ true
 unfolding accepted
-is_accepted s c e = eq-eqb _ 0 (sym e)
+is_accepted s c e z = eq-eqb (refusal s c) 0 (sym e ∙ z)
 
-pub is_refused : (s : State) (c : Call) (e : Refusal) → refusal_number e ≡ refusal s c → accepted s c ≡ false
+pub is_refused : (s : State) (c : Call) {n : ℕ} → n ≡ refusal s c → n ≢ 0 → accepted s c ≡ false
 unfolding accepted
-is_refused s c e n = rw n at (numbered e)
+is_refused s c {n} e z = rw e at (ne_eqb n 0 z)
 
--- what a call does that is refused
-pub refused : (s : State) (c : Call) (e : Refusal) → refusal_number e ≡ refusal s c
-    → Does s c (without_figures (refusal_number e) s.point) s.store (buffer_of c)
+-- a call that is refused, with a number that is not 0
+pub refused : (s : State) (c : Call) {number : ℕ} {a : Answer} → number ≡ refusal s c → number ≢ 0
+    → a ≡ without_figures number s.point → Does s c a s.store (buffer_of c)
 unfolding answer leaves buffer_after
-refused s c e n =
+refused s c e n q =
     let f = is_refused s c e n in
-    record { answered = rw (f, n); left = rw f; buffered = rw f }
+    record { answered = q ∙ rw (f, e); left = rw f; buffered = rw f }
+
+-- a call that is accepted, and has no hour buffer
+pub done : (s : State) (c : Call) {number : ℕ} {a : Answer} {after : List ℕ}
+    → number ≡ refusal s c → number ≡ 0 → figures_of s c ≡ no_figures → hours_out s c ≡ [] → a ≡ without_figures 0 (accept s c).point
+    → after ≡ (accept s c).store
+    → Does s c a after []
+unfolding answer leaves buffer_after
+done s c e z f h q l =
+    let t = is_accepted s c e z in
+    let n : refusal s c ≡ 0 = sym e ∙ z in
+    record { answered = q ∙ rw (t, f, n); left = l ∙ rw t; buffered = rw (t, h) }
 
 -- a call that is no closing has no figures, no hours and no buffer
 quiet : (s : State) (c : Call) → is_closing c ≡ false → (figures_of s c ≡ no_figures) × (hours_out s c ≡ []) × (buffer_of c ≡ [])
@@ -112,10 +125,9 @@ pub call_does : (s : State) (c : Call) (x : Result Record Refusal) (after : List
     → Does s c (answered x s.point) after []
 unfolding answer leaves buffer_after
 call_does s c (Ok r) after f g =
-    let t = is_accepted s c g.0 in
     let q = quiet s c f in
-    record { answered = rw (t, q.0, ← g.0, ← g.1); left = rw (t, ← g.1); buffered = rw (t, q.1) }
-call_does s c (Err e) after f g = rw g.1 (rw (quiet s c f).2 at (refused s c e g.0))
+    done s c g.0 refl q.0 q.1 (rw (← g.1)) (rw (← g.1))
+call_does s c (Err e) after f g = rw g.1 (rw (quiet s c f).2 at (refused s c g.0 (numbered e) refl))
 
 -- what an opening asks for where it is accepted
 pub record Allowed (words : ℕ) (o : Opening) : Type 0 where
@@ -161,19 +173,26 @@ allowed o h =
       basis = basis_passed o.asked.basis o.asked.power.0 o.currents o.place o.asked.cable e.0 f.0 g.0;
     }
 
--- an opening that is refused
-pub not_opened : (o : Opening) (store : List ℕ) (e : Refusal) → refusal_number e ≡ open_refusal (length store) o
-    → Opens o store (without_figures (refusal_number e) zero_record) store
+-- an opening that is refused, and one that is accepted
+pub not_opened : (o : Opening) (store : List ℕ) {number : ℕ} {a : Answer} → number ≡ open_refusal (length store) o → number ≢ 0
+    → a ≡ without_figures number zero_record
+    → Opens o store a store
 unfolding opens open_leaves open_answer
-not_opened o store e n =
-    let f = rw n at (numbered e) in
-    record { answered = rw (f, n); left = rw f }
+not_opened o store {number} e n q =
+    let f : eqb (open_refusal (length store) o) 0 ≡ false = rw e at (ne_eqb number 0 n) in
+    record { answered = q ∙ rw (f, e); left = rw f }
+
+pub now_opened : (o : Opening) (store : List ℕ) {number : ℕ} {a : Answer} {after : List ℕ}
+    → number ≡ open_refusal (length store) o → number ≡ 0 → a ≡ without_figures 0 (opened o).point → after ≡ (opened o).store
+    → Opens o store a after
+unfolding opens open_leaves open_answer
+now_opened o store e z q l =
+    let n : open_refusal (length store) o ≡ 0 = sym e ∙ z in
+    let t : eqb (open_refusal (length store) o) 0 ≡ true = eq-eqb _ 0 n in
+    record { answered = q ∙ rw (t, n); left = l ∙ rw t }
 
 -- an opening does what it comes to
 pub opening_does : (o : Opening) (before : List ℕ) (x : Result Record Refusal) (after : List ℕ) → GivesPoint o before x after
     → Opens o before (answered x zero_record) after
-unfolding opens open_leaves open_answer
-opening_does o before (Ok r) after g =
-    let t : eqb (open_refusal (length before) o) 0 ≡ true = eq-eqb _ 0 (sym g.0) in
-    record { answered = rw (t, ← g.0, ← g.1); left = rw (t, ← g.1) }
-opening_does o before (Err e) after g = rw g.1 (not_opened o before e g.0)
+opening_does o before (Ok r) after g = now_opened o before g.0 refl (rw (← g.1)) (rw (← g.1))
+opening_does o before (Err e) after g = rw g.1 (not_opened o before g.0 (numbered e) refl)

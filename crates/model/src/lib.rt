@@ -8,11 +8,11 @@ ghost use Rattle.model.specs.Refused.{refusal_number, answered};
 use record::Record;
 use refusals::Refusal;
 use rules::Figures;
-use units::{Kw, Kwh};
 
 pub mod refusals;
 
-// The number of the refusal, 0 for none; the record after the call; and a closing's ground and figures, else 0.
+// The number of the refusal, 0 for none; the record after the call; and a closing's ground and figures, else 0. They are
+// numbers as C has them.
 #[repr(C)]
 #[derive(Clone, Copy)]
 pub struct Answer {
@@ -21,36 +21,30 @@ pub struct Answer {
     pub figures: Figures,
 }
 
-// Those of a call that is no closing, and of one that is refused.
-const NO_FIGURES: Figures = Figures {
-    ground: 0,
-    volume: Kwh(0),
-    capacity: Kw(0),
-    sum: Kwh(0),
-    days: 0,
-};
-
 impl Answer {
+    // That of a call that is no closing, or is refused: it has no figures.
+    pub fn without_figures(refusal: u32, after: Record) -> Answer
+        ensures { result ≡ without_figures refusal after }
+    {
+        Answer {
+            refusal,
+            after,
+            figures: Figures::default(),
+        }
+    }
+
     // An accepted call that is no closing.
     pub fn accepted(after: Record) -> Answer
         ensures { result ≡ without_figures 0 after }
     {
-        Answer {
-            refusal: 0,
-            after,
-            figures: NO_FIGURES,
-        }
+        Answer::without_figures(0, after)
     }
 
     // A refused call: the record before it comes back.
     pub fn refused(refusal: Refusal, before: Record) -> Answer
         ensures { result ≡ without_figures (refusal_number refusal) before }
     {
-        Answer {
-            refusal: refusal.number(),
-            after: before,
-            figures: NO_FIGURES,
-        }
+        Answer::without_figures(refusal.number(), before)
     }
 }
 

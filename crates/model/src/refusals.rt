@@ -37,7 +37,8 @@ pub enum Refusal {
 }
 
 impl Refusal {
-    // The number that the call answers.
+    // The number that the call answers. Each enum with numbers has a function for them, since a cast needs the type; a trait
+    // would state each definition once more.
     pub fn number(self) -> u32
         ensures { result ≡ refusal_number self }
     {

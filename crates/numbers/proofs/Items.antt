@@ -5,12 +5,12 @@ use mathlib.Core.List.{List, [], ◌∷◌}
 use Prim.Native.Nat.{ℕ, zero, suc, ◌+◌}
 use native.Mathlib.Omega.{arith}
 use lib.Dec.{leb}
-use lib.ListN.{length, get_or}
+use lib.ListN.{length, get_or, take}
 use Rattle.std.specs.List.{fold, sum_by, list_all}
 use Rattle.std.specs.Ordering.{as_partial_cmp, is_le, nat_cmp, partial_le}
 use Rattle.std.proofs.lemmas.Bool.Decides.{nat_tests}
 use Rattle.std.proofs.lemmas.List.Sums.{sum_by-cons}
-use Rattle.numbers.specs.Lists.{sum_to, all_to, none_above}
+use Rattle.numbers.specs.Lists.{sum_to, all_to, at, none_above}
 
 sum_front : (g : ℕ → ℕ) (n : ℕ) → sum_to g (suc n) ≡ g 0 + sum_to (λ k. g (suc k)) n
 sum_front g zero = omega arith
@@ -56,3 +56,14 @@ pub none_above_items : (limit : ℕ) (xs : List ℕ) → list_all (λ x. partial
 unfolding none_above
 none_above_items limit xs =
     all_same _ (λ x. leb x limit) (λ x. nat_le x limit) xs ∙ all_by_to (λ x. leb x limit) 0 xs
+
+sum_no_words : (n : ℕ) → sum_to (at []) n ≡ 0
+sum_no_words zero = refl
+sum_no_words (suc n) = omega (arith, sum_no_words n)
+
+-- the sum of the first n words, of which there may be fewer
+pub sum_first_words : (xs : List ℕ) (n : ℕ) → sum_by (λ x. x) (take n xs) ≡ sum_to (at xs) n
+sum_first_words xs zero = refl
+sum_first_words [] (suc n) = sym (sum_no_words (suc n))
+sum_first_words (x ∷ xs) (suc n) =
+    omega (arith, sum_by-cons (λ y. y) x (take n xs), sum_first_words xs n, sum_front (at (x ∷ xs)) n)

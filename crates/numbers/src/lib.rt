@@ -1,20 +1,13 @@
 // Numbers and lists of numbers: what the rules of every other crate are written with.
 #![tactic(auto)]
 
-ghost use Rattle.std.specs.Prelude.{◌≡◌, cond, ◌≤◌, length};
+ghost use Rattle.std.specs.Prelude.{◌≡◌, ◌≤◌, length};
 ghost use Rattle.std.specs.List.{list_all};
 ghost use Rattle.std.specs.Ordering.{partial_le};
 ghost use Rattle.numbers.specs.Lists.{sum_to, at, zeros};
 ghost use Rattle.numbers.specs.Rounding.{half_up};
 
-// x where b holds, else y.
-pub fn pick<T: Copy>(b: bool, x: T, y: T) -> T
-    ensures { result ≡ cond b x y }
-{
-    if b { x } else { y }
-}
-
-// x / d rounded half up, and 0 where d is 0.
+// x / d rounded half up, and 0 where d is 0, as document 01 has the capacity of no days.
 #[tactic(auto, unfolding(crate::specs::Rounding::half_up))]
 pub fn half_up(x: u64, d: u64) -> u64
     ensures { result ≡ half_up x d }
@@ -33,7 +26,8 @@ pub fn clear(words: &mut [u32])
     words.fill(0);
 }
 
-// Whether no item is above the limit. The flag has no early return, so that the loop takes several items at a time.
+// Whether no item is above the limit. The flag has no early return, so that the loop takes several items at a time: with `all`
+// it misses the bar of docs/SPEED.md for the scan of the store.
 pub fn none_above<T: PartialOrd + Copy>(items: &[T], limit: T) -> bool
     ensures { result ≡ list_all (λ x. partial_le T.partial_cmp x limit) items.now }
 {
@@ -44,11 +38,11 @@ pub fn none_above<T: PartialOrd + Copy>(items: &[T], limit: T) -> bool
     ok
 }
 
-// Word k, and 0 past the end.
-pub fn word_at(words: &[u32], k: usize) -> u64
-    ensures { (result ≡ at words.now k) × (result ≤ 4294967295) }
+// Word k, and 0 past the end, as the definition has it: the rules ask by index, and a list counts as 0 from its end on.
+pub fn word_at(words: &[u32], k: usize) -> u32
+    ensures { result ≡ at words.now k }
 {
-    words.get(k).copied().map_or(0, u64::from)
+    words.get(k).copied().unwrap_or(0)
 }
 
 // The sum of the first n words.
@@ -56,9 +50,5 @@ pub fn sum_first(words: &[u32], n: usize) -> u64
     requires { n ≤ 744 }
     ensures { result ≡ sum_to (at words.now) n }
 {
-    let mut s = 0;
-    for k in 0..n {
-        s += word_at(words, k);
-    }
-    s
+    words.iter().take(n).map(|word| u64::from(*word)).sum()
 }

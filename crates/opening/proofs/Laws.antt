@@ -2,6 +2,7 @@
 use Prim.Native.Nat.{ℕ}
 use mathlib.Core.List.{List}
 use mathlib.Core.Bool.{cond}
+use mathlib.Core.Logic.{◌≢◌}
 use borrow.Author.Tests.{eq-eqb}
 use lib.Dec.{eqb}
 use Rattle.store.specs.Store.{empty_store}
@@ -12,10 +13,12 @@ use Rattle.power.specs.Power.{power_in, basis_fits, power_on}
 use Rattle.contract.specs.Contract.{keeping, kept}
 use Rattle.rules.specs.Calls.{Opening}
 use Rattle.model.specs.Refusals.{open_refusal}
-use Rattle.record.specs.Record.{fresh_record}
-use Rattle.model.specs.Model.{state}
-use Rattle.model.specs.Opening.{opened}
-use Rattle.model.proofs.Laws.{allowed}
+use Rattle.record.specs.declared.Record.{Record}
+use Rattle.record.specs.Record.{fresh_record, zero_record}
+use Rattle.model.specs.declared.Answer.{Answer}
+use Rattle.model.specs.Model.{state, without_figures}
+use Rattle.model.specs.Opening.{opened, Opens}
+use Rattle.model.proofs.Laws.{allowed, not_opened}
 
 pub kept_is : (words : ℕ) (o : Opening) (p : Kw) → open_refusal words o ≡ 0
     → p.0
@@ -27,7 +30,12 @@ kept_is words o p h e =
     let q : p.0 ≡ power_on o.asked.basis o.asked.power.0 o.currents o.place o.asked.cable = e ∙ rw (allowed o h).basis in
     λ i. keeping o.asked (record { 0 = q i })
 
--- the point and the store that it leaves
+-- a refused opening, from what its parts answer
+pub refused_opening : (o : Opening) (store : List ℕ) {n : ℕ} {r : Record} {a : Answer} → n ≡ open_refusal (length store) o → n ≢ 0
+    → r ≡ zero_record → a ≡ without_figures n r → Opens o store a store
+refused_opening o store {a = a} e f z d = not_opened o store e f (rw z at d)
+
+-- the point and the store that an accepted one leaves
 pub opened_is : (o : Opening) (store : List ℕ) (p : Kw) (after : List ℕ) → open_refusal (length store) o ≡ 0
     → p.0
     ≡ power_in (basis_fits o.asked.basis o.asked.power.0 o.currents o.place o.asked.cable)

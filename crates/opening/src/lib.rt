@@ -14,7 +14,8 @@ use power::{agreed_fits, list_fits, power_of};
 use record::{Record, fresh_record, zero_record};
 use store::clear_store;
 
-// The refusals of an opening: 1 and 10 to 14.
+// The refusals of an opening: 1 and 10 to 14. Contract, month, list and place come from C as four arguments, and go on so: a
+// struct of them would be made in one function and taken apart in the next.
 #[tactic(auto, unfolding(model::specs::Refusals::open_refusal))]
 fn check_opening(
     words: usize,

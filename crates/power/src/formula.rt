@@ -7,7 +7,7 @@ use super::Cable;
 use numbers::half_up;
 use units::{Kw, Kwh};
 
-// The number that is no volume, for callers that take a number alone.
+// What C gets where there is no volume, since it has no Option.
 const NO_VOLUME: u64 = u64::MAX;
 
 impl Cable {
@@ -48,7 +48,7 @@ impl Cable {
         }
     }
 
-    // The volume that the cable gives in some hours, and 2^64 - 1 outside the limits.
+    // The volume that the cable gives in some hours, and 2^64 - 1 outside the limits, as the definition and C have it.
     #[tactic(auto, unfolding(crate::specs::Power::formula_in))]
     pub fn volume(self, hours: u32) -> Kwh
         ensures { result.0 ≡ formula_in self hours }
@@ -56,7 +56,8 @@ impl Cable {
         Kwh(self.volume_within(u64::from(hours)).unwrap_or(NO_VOLUME))
     }
 
-    // P on basis 3, the formula at t = 1, and 0 where the cable is outside its limits.
+    // P on basis 3, the formula at t = 1, and 0 where the cable is outside its limits: the definition of P is a number, as the field
+    // of a contract is. The volume of an hour fits, as the contract shows; `try_from` would bring a case that there is not.
     #[tactic(auto, using(crate::proofs::Laws::formula_most))]
     pub fn power(self) -> Kw
         ensures { result.0 ≡ power_in (cable_fits self) (formula self 1) }
@@ -67,7 +68,7 @@ impl Cable {
         }
     }
 
-    // The cable of these numbers; one that passes 32 bits is outside the limits.
+    // The cable of these numbers, which C gives in 64 bits; one that passes 32 bits is outside the limits.
     #[tactic(auto, unfolding(crate::specs::Power::cable_fits))]
     fn narrow(amperes: u64, volts: u64, cosine: u64, phases: u64) -> Option<Self>
         ensures { MatchOption result

@@ -13,7 +13,8 @@ pub use formula::cable_formula;
 use sharing::share_power;
 use units::Kw;
 
-// A cable: I in amperes, U in volts, c in thousandths of cos φ, which is 0 where it is missing, and its phases.
+// A cable: I in amperes, U in volts, c in thousandths of cos φ, which is 0 where it is missing, and its phases. C gives the
+// numbers, so they may be any.
 #[repr(C)]
 #[derive(Clone, Copy, Debug, PartialEq, Eq, Default)]
 pub struct Cable {
@@ -31,7 +32,7 @@ pub fn agreed_fits(p: Kw) -> bool
     (1..=1000000).contains(&p.0)
 }
 
-// P on basis 1, the agreed power, and 0 where it is outside its limits.
+// P on basis 1, the agreed power, and 0 where it is outside its limits, as the definition of P has it on every basis.
 fn agreed_power(p: Kw) -> Kw
     ensures { result.0 ≡ power_in (agreed_fits p.0) p.0 }
 {
@@ -54,7 +55,7 @@ pub fn list_fits(currents: &[u32], place: usize) -> bool
 }
 
 // P on basis 2: what one place gets of a power agreed for all points of a list, and 0 where an argument is outside its
-// limits.
+// limits, as the definition of P has it on every basis. C gives power, list and place each by itself.
 #[tactic(auto, using(crate::proofs::Laws::shared_in))]
 pub fn shared_power(agreed: Kw, currents: &[u32], place: usize) -> Kw
     ensures { result.0 ≡ power_in (agreed_fits agreed.0 && list_fits currents.now place) (shared_power agreed.0 currents.now place) }
@@ -67,7 +68,7 @@ pub fn shared_power(agreed: Kw, currents: &[u32], place: usize) -> Kw
 }
 
 // P on any basis, and 0 where there is no such basis or what it uses is outside its limits. What the basis does not use
-// may be anything.
+// may be anything. The basis is the number that C gives.
 #[tactic(auto, unfolding(crate::specs::Power::basis_fits, crate::specs::Power::power_on))]
 pub fn power_of(basis: u32, agreed: Kw, currents: &[u32], place: usize, cable: Cable) -> Kw
     ensures { result.0

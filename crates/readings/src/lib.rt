@@ -40,7 +40,7 @@ impl Form {
     }
 }
 
-// A meter of the point.
+// A meter of the point. Of the four readings of a month two are of such a meter; with `ReadingOf` two cases would have no answer.
 #[derive(Clone, Copy, Debug, PartialEq, Eq)]
 enum Meter {
     Billing,
@@ -96,7 +96,8 @@ impl Meter {
     }
 }
 
-// Where a neighbour's volume is read: at its billing meter, or at its control meter.
+// Where a neighbour's volume is read: at its billing meter, or at its control meter. The other two readings of `ReadingOf` have
+// no number among the sources.
 #[derive(Clone, Copy, Debug, PartialEq, Eq)]
 enum Source {
     First,
@@ -140,7 +141,7 @@ impl Source {
     }
 }
 
-// Anyone's refusals, and then 20 to 22 of a reading in a form.
+// Anyone's refusals, and then 20 to 22 of a reading in a form. The kinds of the contract are numbers, as C gives them.
 fn check_meter(words: usize, r: Record, meter: Meter, form: Form) -> Result<(), Refusal>
     ensures number { (rest : ℕ) → refuse_meter words r meter (form_kind form) rest ≡ number_or result rest }
     ensures passed { OnOk result (words ≡ 10416) }
@@ -186,6 +187,7 @@ fn try_volume(r: Record, store: &[u32], meter: Meter, volume: Kwh) -> Result<Rec
     Ok(meter.give(r, given_as(volume)))
 }
 
+// The source is the number that C gives, and is judged behind 1 to 3.
 #[tactic(auto, unfolding(model::proofs::Laws::call_definitions))]
 fn try_neighbour(r: Record, store: &[u32], source: u32, volume: Kwh) -> Result<Record, Refusal>
     ensures { Gives (state r store.now) (neighbour source volume.0) result store.now }
@@ -197,7 +199,8 @@ fn try_neighbour(r: Record, store: &[u32], source: u32, volume: Kwh) -> Result<R
     Ok(source.give(r, given_as(volume)))
 }
 
-// The hours of an interval billing meter.
+// The hours of an interval billing meter. Document 01 has a call for each meter and form, and C a function for each, so the
+// four stay apart; the tests and the writing are two functions.
 #[tactic(auto, using(model::proofs::Laws::call_does), unfolding(model::proofs::Laws::call_definitions))]
 pub fn read_billing_hours(r: Record, store: &mut [u32], hours: &[u32]) -> Answer
     ensures { Does (state r store.old) (billing_hours hours.now) result store.new [] }
@@ -229,7 +232,7 @@ pub fn read_control_volume(r: Record, store: &[u32], volume: Kwh) -> Answer
     answer_of(try_volume(r, store, Meter::Control, volume), r)
 }
 
-// A neighbour's volume, of source 1, its billing meter, or 2, its control meter.
+// A neighbour's volume, of source 1, its billing meter, or 2, its control meter; C gives the source as a number, which 20 judges.
 #[tactic(auto, using(model::proofs::Laws::call_does), unfolding(model::proofs::Laws::call_definitions))]
 pub fn read_neighbour(r: Record, store: &[u32], source: u32, volume: Kwh) -> Answer
     ensures { Does (state r store.now) (neighbour source volume.0) result store.now [] }

@@ -49,9 +49,9 @@ points = (refl, refl, refl)
 
 -- B even at 0; K only without a billing reading; nothing of an interval meter
 volumes :
-    (volume_read (whole 7) (whole 5) ≡ 7) × (volume_read (whole 0) (whole 5) ≡ 0) × (volume_read (hourly (9 ∷ [])) (whole 5) ≡ 0)
-    × (volume_read missing (whole 5) ≡ 5)
-    × (volume_read missing (hourly (9 ∷ [])) ≡ 0) × (volume_read missing missing ≡ 0)
+    (volume_read (whole 7) (whole 5) ≡ Some 7) × (volume_read (whole 0) (whole 5) ≡ Some 0) × (volume_read (hourly (9 ∷ [])) (whole 5) ≡ None)
+    × (volume_read missing (whole 5) ≡ Some 5)
+    × (volume_read missing (hourly (9 ∷ [])) ≡ None) × (volume_read missing missing ≡ None)
 unfolding volume_read
 volumes = (refl, refl, refl, refl, refl, refl)
 
@@ -84,11 +84,11 @@ row = Some (5 ∷ [])
 abbrev marked : ℕ → List ℕ
 marked m = set (zeros 24) 10 m
 
--- C' is 0 with R 2, without peak hours, without a past, and with any other reading than K. Values of it are in the crate `whole_months`
+-- no C' with R 2, without peak hours, without a past, and with any other reading than K. Values of it are in the crate `whole_months`
 sums :
-    (compared_in (january (marked 3) 2 missing (whole 20) 4 row) ≡ 0) × (compared_in (january (marked 2) 3 missing (whole 20) 4 row) ≡ 0)
-    × (compared_in (january (marked 3) 3 missing (whole 20) 4 None) ≡ 0) × (compared_in (january (marked 3) 3 (whole 20) (whole 20) 4 row) ≡ 0)
-    × (compared_in (january (marked 3) 3 missing (hourly (5 ∷ [])) 4 row) ≡ 0) × (compared_in (january (marked 3) 3 missing missing 4 row) ≡ 0)
+    (compared_in (january (marked 3) 2 missing (whole 20) 4 row) ≡ None) × (compared_in (january (marked 2) 3 missing (whole 20) 4 row) ≡ None)
+    × (compared_in (january (marked 3) 3 missing (whole 20) 4 None) ≡ None) × (compared_in (january (marked 3) 3 (whole 20) (whole 20) 4 row) ≡ None)
+    × (compared_in (january (marked 3) 3 missing (hourly (5 ∷ [])) 4 row) ≡ None) × (compared_in (january (marked 3) 3 missing missing 4 row) ≡ None)
 unfolding reason_definitions
 sums = (refl, refl, refl, refl, refl, refl)
 
@@ -97,7 +97,7 @@ plain_answer :
     reasons_of (state (with_service (fresh_record contract (on 2023 1)) (with_denials fresh_service 2)) []) []
     ≡ record {
       clause = Some DeniedTwice;
-      reading = kwh 0;
+      reading = None;
       neighbour = kwh 0;
       power = record { 0 = 3 };
       peaks = 0;
@@ -105,7 +105,7 @@ plain_answer :
       denials = 2;
       counted = 3;
       past = None;
-      compared = kwh 0;
+      compared = None;
     }
 unfolding reason_definitions
 plain_answer = refl

@@ -1,5 +1,8 @@
-// The reasons that have to be worked out: the point of document 000, the reading, the past month and C'.
-ghost use Rattle.std.specs.Prelude.{◌≡◌, List, ℕ, length};
+// The reasons that have to be worked out: the point of document 000, the reading, the past month and C'. What is asked of a
+// record's fields is asked of numbers: a record crosses C with any bits, which number 2 judges. The 744 words of the buffer are
+// a clause, since it is the caller's list.
+ghost use Rattle.std.specs.Prelude.{◌≡◌, List, ℕ, length, cond, ◌&&◌, not, eqb, Some, None, option_map};
+ghost use Rattle.record.specs.Record.{is_set, kwh};
 ghost use Rattle.model.specs.Model.{measured_in};
 ghost use Rattle.first_ground.specs.Month.{inputs_of};
 ghost use Rattle.reasons.specs.Reasons.{clause_of, volume_read, compared_in};
@@ -9,8 +12,7 @@ use first_ground::{ClosingMonth, less};
 use grounds::hours::by_past;
 use grounds::past::find_past;
 use marks::capacity_sum;
-use numbers::pick;
-use record::Record;
+use record::{Reading, Record};
 use rules::{Clause, Ground};
 use units::Kwh;
 
@@ -30,37 +32,45 @@ pub(crate) fn clause_of(r: Record) -> Option<Clause>
     }
 }
 
-// The reading that V comes from: that of an integral billing meter, or without a billing reading that of an integral
-// control meter; else 0.
-#[tactic(auto, using(crate::proofs::Laws::reading_is))]
-pub(crate) fn volume_read(r: Record) -> Kwh
-    ensures { (hs ks : List ℕ)
-        → result.0 ≡ volume_read (measured_in r.contract.billing r.readings.billing hs) (measured_in r.contract.control r.readings.control ks) }
+// The volume that was read at a meter of this kind: none where nothing was read, or hours were.
+fn integral_volume(kind: u32, g: Reading) -> Option<Kwh>
+    ensures { result ≡ cond (is_set g.given && not (eqb kind 1)) (Some g.volume) None }
 {
-    let g = r.readings;
-    let k = pick(r.contract.control == 1, 0, g.control.volume.0);
-    let k = pick(g.control.given == 1, k, 0);
-    let b = pick(r.contract.billing == 1, 0, g.billing.volume.0);
-    Kwh(pick(g.billing.given == 1, b, k))
+    ((g.given == 1) & (kind != 1)).then_some(g.volume)
 }
 
-// C', where ground 6 asks for it, else 0. Ground 4's hours, which ground 6 has too, go into the buffer first.
-pub(crate) fn compared(month: &ClosingMonth<'_>, hours: &mut [u32]) -> Kwh
+// The reading in a volume that V comes from: that of the billing meter, or without a billing reading that of the control meter.
+#[tactic(auto, using(crate::proofs::Laws::reading_is))]
+pub(crate) fn volume_read(r: Record) -> Option<Kwh>
+    ensures { (hs ks : List ℕ)
+        → result
+        ≡ option_map kwh (volume_read (measured_in r.contract.billing r.readings.billing hs) (measured_in r.contract.control r.readings.control ks)) }
+{
+    let g = r.readings;
+    if g.billing.given == 1 {
+        integral_volume(r.contract.billing, g.billing)
+    } else {
+        integral_volume(r.contract.control, g.control)
+    }
+}
+
+// C', where ground 6 asks for it. Ground 4's hours, which ground 6 has too, go into the buffer first.
+pub(crate) fn compared(month: &ClosingMonth<'_>, hours: &mut [u32]) -> Option<Kwh>
     requires { length hours.old ≡ 744 }
-    ensures { result.0 ≡ compared_in (inputs_of month.now) }
+    ensures { result ≡ option_map kwh (compared_in (inputs_of month.now)) }
 {
     let r = month.point;
     let Some(past) = find_past(r) else {
-        return Kwh(0);
+        return None;
     };
     let g = r.readings;
     let volume = (g.billing.given != 1) & (g.control.given == 1) & (r.contract.control != 1);
     let due = volume & (3 <= month.counted()) & (0 < month.survey.peaks);
-    if due {
-        let v = less(g.control.volume, month.neighbour());
-        let t = open_hours(r.date) as usize;
-        by_past(Ground::ControlByPastTested, v, month.store, past, t, hours);
-        return capacity_sum(month.marks, hours);
+    if !due {
+        return None;
     }
-    Kwh(0)
+    let v = less(g.control.volume, month.neighbour());
+    let t = open_hours(r.date) as usize;
+    by_past(Ground::ControlByPastTested, v, month.store, past, t, hours);
+    Some(capacity_sum(month.marks, hours))
 }

@@ -11,7 +11,8 @@ use units::Kwh;
 pub mod changes;
 
 // The run of missed months, whether the point is in service, denials of access, and the month of the last fault by its
-// number, 0 for none. A flag is a number, 1 for yes and 0 for no, so that a record of any bits can be judged.
+// number, 0 for none. Flag and month are numbers, a flag 1 for yes and 0 for no, as C keeps them, so that a record of any
+// bits can be judged.
 #[repr(C)]
 #[derive(Clone, Copy, PartialEq, Eq, Default)]
 pub struct Service {
@@ -21,7 +22,8 @@ pub struct Service {
     pub fault: u64,
 }
 
-// For each calendar month the year that its row holds, 0 for none, and the latest past month by its number, 0 for none.
+// For each calendar month the year that its row holds, 0 for none, and the latest past month by its number, 0 for none. They are
+// numbers and no options, since C keeps the record between calls.
 #[repr(C)]
 #[derive(Clone, Copy, PartialEq, Eq, Default)]
 pub struct Past {
@@ -29,7 +31,8 @@ pub struct Past {
     pub latest: u64,
 }
 
-// Whether a reading is given, 1 or 0, and the volume of an integral or neighbour one, else 0.
+// Whether a reading is given, 1 or 0, and the volume of an integral or neighbour one, else 0. It crosses C, so the flag is a
+// number beside the volume and no option.
 #[repr(C)]
 #[derive(Clone, Copy, PartialEq, Eq, Default)]
 pub struct Reading {
@@ -57,7 +60,7 @@ pub enum ReadingOf {
     Second,
 }
 
-// What a point keeps from call to call, besides the store.
+// What a point keeps from call to call, besides the store. The flag `opened` is a number like the others.
 #[repr(C)]
 #[derive(Clone, Copy, PartialEq, Eq, Default)]
 pub struct Record {

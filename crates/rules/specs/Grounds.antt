@@ -3,7 +3,8 @@ use Rattle.std.specs.Prelude.{ℕ, Bool, ◌||◌, eqb}
 use Rattle.rules.specs.declared.Ground.{Ground}
 use Rattle.rules.specs.declared.Clause.{Clause}
 use Rattle.rules.specs.declared.Clause.TheVariants.{Missed, DeniedTwice, OutOfService}
-use Rattle.rules.specs.declared.Ground.TheVariants.{BillingHours, BillingVolume, ControlHours, ControlByPast, ControlByPeaks, ControlByPastTested, Past, Power, Cable}
+use Rattle.rules.specs.declared.Ground.TheVariants.{BillingHours, BillingVolume, ControlHours, ControlByPast}
+use Rattle.rules.specs.declared.Ground.TheVariants.{ControlByPeaks, ControlByPastTested, Past, Power, Cable}
 
 -- the number of a ground in document 01's table
 abbrev pub ground_number : Ground → ℕ

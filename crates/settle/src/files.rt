@@ -62,7 +62,7 @@ impl Session {
         self.player.line = 0;
         let answers = &mut self.player.answers;
         match answers.layout.form {
-            Form::Programs => answers.put_record(b"file", &[self.file]),
+            Form::Programs => answers.put_record::<u64>(b"file", self.file, &[]),
             Form::People if self.options.files < 2 => (),
             Form::People => {
                 answers.text.put(name);
@@ -71,13 +71,14 @@ impl Session {
         }
     }
 
-    // A file that cannot be read: for people by its name, for programs an error without a line.
+    // A file that cannot be read: for people by its name, for programs an error without a line. The record has numbers alone, and 0
+    // is the line that there is not (docs/HISTORY-FILE.md).
     fn no_file(&mut self, name: &[u8]) {
         let counts = &mut self.player.counts;
         counts.errors = counts.errors.saturating_add(1);
         let answers = &mut self.player.answers;
         match answers.layout.form {
-            Form::Programs => answers.put_record(b"error", &[0, 0, 0]),
+            Form::Programs => answers.put_record::<u64>(b"error", 0, &[0, 0]),
             Form::People => {
                 answers.text.put(name);
                 answers.text.put(b": cannot be read\n");
@@ -126,7 +127,8 @@ impl Session {
         Ok(true)
     }
 
-    // Plays the files of the command, one after the other.
+    // Plays the files of the command, one after the other. An argument is lent by its number, and no number says how many there
+    // are.
     fn play_files(&mut self, rt: &(impl Env + Files + Input + Print)) -> io::Result<()> {
         for i in 1..usize::MAX {
             if !self.play_argument(rt, i)? {

@@ -12,7 +12,7 @@ use std::fs::Files;
 use std::io;
 use std::io::Input;
 
-// Plays what the command names, or prints what it can be asked.
+// Plays what the command names, or prints what it can be asked. The tasks are a closed set, and the match names what each does.
 fn run(rt: &(impl Env + Files + Input + Print)) -> io::Result<()> {
     let options = find_options(rt);
     match options.task {

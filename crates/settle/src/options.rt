@@ -10,15 +10,16 @@ pub const ARGUMENT_ROOM: usize = 4096;
 
 // What the command does: it plays, or it prints what it can be asked, and first which of its arguments is an option that is
 // not known.
-#[derive(Clone, Copy)]
+#[derive(Clone, Copy, Default)]
 pub enum Task {
+    #[default]
     Play,
     Help,
     Unknown(usize),
 }
 
 // What the command does, how its answers are written, and how many files it names.
-#[derive(Clone, Copy)]
+#[derive(Clone, Copy, Default)]
 pub struct Options {
     pub task: Task,
     pub layout: Layout,
@@ -26,7 +27,7 @@ pub struct Options {
 }
 
 // Argument i of the command, in a buffer that is lent for it; none behind the last. One that the buffer cannot hold is
-// empty.
+// empty, which names no file, so that it is told as a file that cannot be read.
 pub fn argument<'a>(rt: &impl Env, i: usize, word: &'a mut [u8]) -> Option<&'a [u8]>
     ensures { IfSome result (λ a. length a.now ≤ length word.old) }
 {
@@ -59,16 +60,9 @@ impl Options {
     }
 }
 
-// The options of the command, wherever they stand.
+// The options of the command, wherever they stand; an argument is lent by its number.
 pub fn find_options(rt: &impl Env) -> Options {
-    let mut o = Options {
-        task: Task::Play,
-        layout: Layout {
-            form: Form::People,
-            hours: false,
-        },
-        files: 0,
-    };
+    let mut o = Options::default();
     for i in 1..usize::MAX {
         let mut word = [0; ARGUMENT_ROOM];
         let Some(word) = argument(rt, i, &mut word) else {

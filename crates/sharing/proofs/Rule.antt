@@ -219,3 +219,8 @@ shared_and e shared = rw e shared
 
 pub shared_no : {fits r : Bool} {hours before : List ℕ} → fits ≡ false → r ≡ false → Shared fits hours before before r
 shared_no e f = record { done = rw (e, f); left = rw e }
+
+-- what the proof of one place's share looks into
+unfoldable pub share_definitions : Unit {0}
+unfolding share_in weights_fit
+share_definitions = tt

@@ -28,7 +28,8 @@ start_fits {n = n} {s = s} {k = k} chosen w e g i some hours volume weights = re
   weights =
       rw (e, taken_sum n chosen w, ← g, ← i)
       (cond_most (eqb s 0)
-      (cond_most (eqb k 0) (omega arith) (omega (arith, i, sum_most (within chosen one) 1 n (λ h l. cond_most (chosen h) (omega arith) (omega arith))))) weights);
+      (cond_most (eqb k 0) (omega arith)
+      (omega (arith, i, sum_most (within chosen one) 1 n (λ h l. cond_most (chosen h) (omega arith) (omega arith))))) weights);
 }
 
 -- an even sharing over the chosen of n hours, of which there are k, or over the others

@@ -10,6 +10,7 @@ use super::progress::Progress;
 use super::weights::{Weights, count, even_weight, even_whole};
 
 // A sharing by weights whose numbers fit. It is inlined, so that the weights stand in registers and the loop is made for each kind of them.
+// It goes by the number of the hour, by which a weight is asked for.
 #[inline(always)]
 pub(crate) fn fill(v: u64, weights: &Weights, hours: &mut [u32])
     requires month_fits { MonthFits v (hour_count weights.now) (length hours.old) }
@@ -24,7 +25,8 @@ pub(crate) fn fill(v: u64, weights: &Weights, hours: &mut [u32])
     }
 }
 
-// Two even sharings whose numbers fit: the first over the chosen hours, the second over the others.
+// Two even sharings whose numbers fit: the first over the chosen hours, the second over the others. It is one loop for both: two
+// runs of `fill` would add into the hours of the first, which is a loop more and another contract of `fill`.
 pub(crate) fn fill_apart(a: u64, b: u64, chosen: &[bool], hours: &mut [u32])
     requires { MonthFits (a + b) (length chosen.now) (length hours.old) }
     ensures { hours.new ≡ padded (length hours.old) (shares_apart a b (chosen_at chosen.now) (length chosen.now)) }

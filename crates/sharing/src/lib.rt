@@ -96,8 +96,9 @@ pub fn share_apart(first: Kwh, second: Kwh, chosen: &[bool], hours: &mut [u32]) 
     Ok(())
 }
 
-// What one place of a list gets of a number shared by weights, and 0 outside the list or where the numbers do not fit.
-#[tactic(auto, using(crate::proofs::Rule::month_fits_lem, crate::proofs::Rule::shares_outside), unfolding(crate::specs::Shares::share_in, crate::specs::Shares::weights_fit))]
+// What one place of a list gets of a number shared by weights, and 0 outside the list or where the numbers do not fit: a share
+// is a number in the definition, and P on basis 2 is 0 there.
+#[tactic(auto, using(crate::proofs::Rule::month_fits_lem, crate::proofs::Rule::shares_outside), unfolding(crate::proofs::Rule::share_definitions))]
 fn share_at(v: u64, weights: &[u32], place: usize) -> u64
     ensures { result ≡ share_in v weights.now place }
 {
@@ -113,7 +114,8 @@ fn share_at(v: u64, weights: &[u32], place: usize) -> u64
     }
 }
 
-// What one place of a list gets of a power shared by weights, and 0 outside the list or where the numbers do not fit.
+// What one place of a list gets of a power shared by weights, and 0 outside the list or where the numbers do not fit, as
+// `share_at` has it. No share is above the power, so the cast is of a number that fits.
 pub fn share_power(power: Kw, weights: &[u32], place: usize) -> Kw
     ensures { result.0 ≡ share_in power.0 weights.now place }
 {

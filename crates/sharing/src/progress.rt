@@ -41,7 +41,8 @@ impl Progress {
         }
     }
 
-    // One hour on, of weight w: what the hour gets. An hour of weight 0 needs no division.
+    // One hour on, of weight w: what the hour gets. An hour of weight 0 needs no division. What it gets fits, as the contract shows;
+    // `try_from` would bring a case that there is not.
     #[tactic(auto, using(crate::proofs::Laws::portion_up, crate::proofs::Laws::portion_most))]
     pub(crate) fn share(&mut self, w: u64) -> u32
         requires { self.old.passed + w ≤ self.old.whole }

@@ -6,8 +6,8 @@ ghost use Rattle.sharing.specs.Shares.{one, within, past_at, chosen_at};
 use numbers::word_at;
 
 // Hour h of the past: where it lacks that hour, its hour h - 168.
-pub fn past_at(past: &[u32], h: usize) -> u64
-    ensures { (result ≡ past_at past.now h) × (result ≤ 4294967295) }
+pub fn past_at(past: &[u32], h: usize) -> u32
+    ensures { result ≡ past_at past.now h }
 {
     if h < past.len() {
         word_at(past, h)
@@ -16,7 +16,9 @@ pub fn past_at(past: &[u32], h: usize) -> u64
     }
 }
 
-// The number of chosen hours, counted in 32 bits, so that more flags are taken at a time.
+// The number of chosen hours, counted in 32 bits, so that more flags are taken at a time. A count with the test as a parameter
+// has a longer contract than this one line and those of `marks`. The limit is a clause, as in `marks`: a type for it would be made
+// of the slice at every call.
 #[tactic(auto, using(numbers::proofs::Items::sum_by_to))]
 pub(crate) fn count(chosen: &[bool]) -> u64
     requires { length chosen.now ≤ 744 }
@@ -34,7 +36,8 @@ pub(crate) fn even_weight(count: u64, is_chosen: bool) -> u64
     u64::from((count == 0) | is_chosen)
 }
 
-// The sum of these weights over n hours.
+// The sum of these weights over n hours. A length is cast to 64 bits here and where weights are added, since u64 has no From of
+// usize.
 pub(crate) fn even_whole(count: u64, n: u64) -> u64
     ensures { result ≡ cond (eqb count 0) n count }
 {
@@ -66,7 +69,7 @@ impl<'a> Weights<'a> {
         let mut sum: u64 = 0;
         for (h, is_chosen) in chosen.iter().enumerate() {
             if *is_chosen {
-                sum += past_at(past, h);
+                sum += u64::from(past_at(past, h));
             }
         }
         Weights {
@@ -113,7 +116,7 @@ impl<'a> Weights<'a> {
         if self.sum == 0 {
             even_weight(self.count, self.chosen[h])
         } else if self.chosen[h] {
-            past_at(self.past, h)
+            u64::from(past_at(self.past, h))
         } else {
             0
         }

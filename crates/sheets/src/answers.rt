@@ -1,19 +1,23 @@
 // What is written of a call, of an error, of a closed month and of all files.
+ghost use Rattle.std.specs.Prelude.{◌≡◌};
+
 use super::months::{Month, Sheet};
 use super::wording::{call_words, error_words, refusal_words};
 use line_reader::{Call, Error};
 use text::Buffer;
 
 // Whom answers are for: people, who get sentences and sheets, or programs, which get records: a word, then numbers in base
-// ten, each behind a tab.
-#[derive(Clone, Copy)]
+// ten, each behind a tab. A match in each function has both texts of an answer side by side, which two implementors of a
+// trait would part.
+#[derive(Clone, Copy, Default)]
 pub enum Form {
+    #[default]
     People,
     Programs,
 }
 
 // How answers are written: in which form, and whether the hours of each closed month are among them.
-#[derive(Clone, Copy)]
+#[derive(Clone, Copy, Default)]
 pub struct Layout {
     pub form: Form,
     pub hours: bool,
@@ -27,7 +31,8 @@ pub struct Counts {
     pub errors: u64,
 }
 
-// Answers, with room for N bytes, and how they are written.
+// Answers, with room for N bytes, and how they are written. What is written is not proved; that the layout stays is what a caller
+// may rely on, so each function promises it.
 #[derive(Drop)]
 pub struct Answers<const N: usize> {
     pub layout: Layout,
@@ -35,15 +40,14 @@ pub struct Answers<const N: usize> {
 }
 
 impl<const N: usize> Answers<N> {
-    // A call of a line and its answer.
-    pub fn put_call(&mut self, line: u64, call: Call, refusal: u32) {
+    // A call of a line and its answer, whose refusal is a number, as in `Answer`, which crosses C.
+    pub fn put_call(&mut self, line: u64, call: Call, refusal: u32)
+        ensures { self.new.layout ≡ self.old.layout }
+    {
         let words = call_words(call);
         let why = refusal_words(refusal);
         match self.layout.form {
-            Form::Programs => self.put_record(
-                b"call",
-                &[line, u64::from(call.number()), u64::from(refusal)],
-            ),
+            Form::Programs => self.put_record(b"call", line, &[call.number(), refusal]),
             Form::People if refusal == 0 => self
                 .text
                 .print(format_args!("line {line}: {words}: accepted\n")),
@@ -54,24 +58,30 @@ impl<const N: usize> Answers<N> {
     }
 
     // A line that is no call, with the column of its error and what was expected there.
-    pub fn put_error(&mut self, line: u64, column: u64, error: Error) {
+    pub fn put_error(&mut self, line: u64, column: u64, error: Error)
+        ensures { self.new.layout ≡ self.old.layout }
+    {
         let words = error_words(error);
         match self.layout.form {
-            Form::Programs => self.put_record(b"error", &[line, column, u64::from(error.number())]),
+            Form::Programs => self.put_record(b"error", line, &[column, u64::from(error.number())]),
             Form::People => self.text.print(format_args!(
                 "line {line}: error at column {column}, {words}\n"
             )),
         }
     }
 
-    // A month that was closed: for people its sheet, for programs its record, with the hours where they are asked for.
-    pub fn put_month(&mut self, month: Month, hours: &[u32]) {
+    // A month that was closed: for people its sheet, for programs its record, with the T hours of the buffer where they are
+    // asked for. The buffer has 744 words, as a closing fills it in fixed memory; the month has the first T of them.
+    pub fn put_month(&mut self, month: Month, hours: &[u32])
+        ensures { self.new.layout ≡ self.old.layout }
+    {
         let table = self.layout.hours;
+        let hours = &hours[..hours.len().min(month.hours as usize)];
         match self.layout.form {
             Form::Programs => {
-                self.put_record(b"sheet", &month.fields());
+                self.put_record(b"sheet", month.line, &month.fields());
                 if table {
-                    self.put_hours(month.line, hours, month.hours as usize);
+                    self.put_record(b"hours", month.line, hours);
                 }
             }
             Form::People => self.text.print(Sheet {
@@ -83,7 +93,9 @@ impl<const N: usize> Answers<N> {
     }
 
     // The sum of all files.
-    pub fn put_end(&mut self, counts: Counts) {
+    pub fn put_end(&mut self, counts: Counts)
+        ensures { self.new.layout ≡ self.old.layout }
+    {
         let Counts {
             accepted,
             refused,
@@ -91,35 +103,30 @@ impl<const N: usize> Answers<N> {
         } = counts;
         let calls = accepted.saturating_add(refused);
         match self.layout.form {
-            Form::Programs => self.put_record(b"end", &[calls, accepted, refused, errors]),
+            Form::Programs => self.put_record(b"end", calls, &[accepted, refused, errors]),
             Form::People => self.text.print(format_args!(
                 "calls {calls}, accepted {accepted}, refused {refused}, errors {errors}\n"
             )),
         }
     }
 
-    // A record: a word and its numbers.
-    pub fn put_record(&mut self, word: &[u8], numbers: &[u64]) {
+    // A record: a word and its numbers, the first of them apart, since the others of a month are its hours.
+    pub fn put_record<T: Copy + Into<u64>>(&mut self, word: &[u8], first: u64, others: &[T])
+        ensures { self.new.layout ≡ self.old.layout }
+    {
         self.text.put(word);
-        for n in numbers {
-            self.put_field(*n);
+        self.put_field(first);
+        for n in others {
+            self.put_field((*n).into());
         }
         self.text.put(b"\n");
     }
 
     // A number of a record.
-    fn put_field(&mut self, n: u64) {
+    fn put_field(&mut self, n: u64)
+        ensures { self.new.layout ≡ self.old.layout }
+    {
         self.text.put(b"\t");
         self.text.put_number(n);
-    }
-
-    // The record of the T hours of a month, behind the number of the line.
-    fn put_hours(&mut self, line: u64, hours: &[u32], t: usize) {
-        self.text.put(b"hours");
-        self.put_field(line);
-        for hour in hours.iter().take(t) {
-            self.put_field(u64::from(*hour));
-        }
-        self.text.put(b"\n");
     }
 }

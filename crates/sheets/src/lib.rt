@@ -2,6 +2,6 @@
 #![tactic(auto)]
 
 pub mod answers;
-pub mod days;
+mod days;
 pub mod months;
-pub mod wording;
+mod wording;

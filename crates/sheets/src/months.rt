@@ -33,10 +33,7 @@ impl fmt::Display for Sheet<'_> {
         self.month.write_past(f)?;
         self.month.write_test(f)?;
         self.month.write_figures(f)?;
-        let days = Days {
-            hours: self.hours,
-            count: (self.month.hours / 24) as usize,
-        };
+        let days = Days { hours: self.hours };
         days.write_chart(f)?;
         if self.table {
             days.write_table(f)?;
@@ -45,14 +42,9 @@ impl fmt::Display for Sheet<'_> {
     }
 }
 
-// A product of numbers below 2^32; a larger one counts as that.
-fn product(a: u64, b: u64) -> u64 {
-    a.min(4294967295) * b.min(4294967295)
-}
-
 impl Month {
-    // The numbers of its record for programs.
-    pub fn fields(&self) -> [u64; 22] {
+    // The numbers of its record for programs, behind the line. What there is not is 0 there, since a record is numbers alone.
+    pub(crate) fn fields(&self) -> [u64; 21] {
         let Figures {
             ground,
             volume,
@@ -62,21 +54,20 @@ impl Month {
         } = self.figures;
         let why = self.why;
         [
-            self.line,
             u64::from(self.date.year),
             u64::from(self.date.month),
             u64::from(self.hours),
             u64::from(ground),
             why.clause.map_or(0, |clause| u64::from(clause.number())),
             volume.0,
-            why.reading.0,
+            why.reading.map_or(0, |reading| reading.0),
             why.neighbour.0,
             u64::from(why.power.0),
             why.peaks,
             self.peak_volume(),
             days,
             sum.0,
-            why.compared.0,
+            why.compared.map_or(0, |compared| compared.0),
             u64::from(why.run),
             u64::from(why.denials),
             u64::from(why.counted),
@@ -87,7 +78,7 @@ impl Month {
         ]
     }
 
-    // A, the part of V that the peak rule puts into the peak hours.
+    // A, the part of V that the peak rule puts into the peak hours. The cast is of a number that fits.
     fn peak_volume(&self) -> u64 {
         let n = self.why.peaks.min(744) as u32;
         let part = peak_part(self.figures.volume, n, self.why.power);
@@ -111,7 +102,7 @@ impl Month {
         writeln!(f)
     }
 
-    // How V was found.
+    // How V was found. The ground is a number, as `Figures` has it, which crosses C.
     fn write_found<W: fmt::Write>(&self, f: &mut fmt::Formatter<W>) -> fmt::Result {
         let t = self.hours;
         match self.figures.ground {
@@ -131,15 +122,21 @@ impl Month {
         }
     }
 
-    // The reading of a volume, by its letter, less the neighbour's.
+    // The reading of a volume, where there is one, by its letter, less the neighbour's.
     fn write_difference<W: fmt::Write>(
         &self,
         f: &mut fmt::Formatter<W>,
         letter: &str,
     ) -> fmt::Result {
-        let reading = self.why.reading.0;
-        let neighbour = self.why.neighbour.0;
-        write!(f, ", {letter} {reading} kWh less N {neighbour} kWh")?;
+        let Reasons {
+            reading,
+            neighbour,
+            ..
+        } = self.why;
+        let Some(reading) = reading else {
+            return Ok(());
+        };
+        write!(f, ", {letter} {} kWh less N {} kWh", reading.0, neighbour.0)?;
         if reading < neighbour {
             write!(f, ", not below 0")?;
         }
@@ -189,7 +186,7 @@ impl Month {
         };
         let role = match self.figures.ground {
             4 | 6 | 7 => "used",
-            _ if self.is_tested() => "used in the test alone",
+            _ if self.why.compared.is_some() => "used in the test alone",
             _ => "not used",
         };
         writeln!(
@@ -205,24 +202,13 @@ impl Month {
         past.month == self.date.month && u64::from(past.year) + 1 == u64::from(self.date.year)
     }
 
-    // Whether grounds 5 and 6 were compared: an integral control reading, R at least 3, peak hours and a past.
-    fn is_tested(&self) -> bool {
-        let Reasons {
-            counted,
-            peaks,
-            past,
-            ..
-        } = self.why;
-        matches!(self.figures.ground, 5 | 6) && 3 <= counted && 0 < peaks && past.is_some()
-    }
-
     // The test between grounds 5 and 6, where there is one.
     fn write_test<W: fmt::Write>(&self, f: &mut fmt::Formatter<W>) -> fmt::Result {
-        if !self.is_tested() {
+        let Some(compared) = self.why.compared else {
             return Ok(());
-        }
-        let low = product(self.peak_volume(), self.figures.days);
-        let high = product(self.why.peaks, self.why.compared.0);
+        };
+        let low = self.peak_volume().saturating_mul(self.figures.days);
+        let high = self.why.peaks.saturating_mul(compared.0);
         let outcome = if self.figures.ground == 6 {
             "less, so the past"
         } else {

@@ -2,8 +2,8 @@
 use line_reader::{Call, Error};
 use rules::Clause;
 
-// The name of a month.
-pub fn month_name(month: u32) -> &'static str {
+// The name of a month, which is a number, as in `Date`, which crosses C.
+pub(crate) fn month_name(month: u32) -> &'static str {
     match month {
         1 => "January",
         2 => "February",
@@ -22,7 +22,7 @@ pub fn month_name(month: u32) -> &'static str {
 }
 
 // The words of a call.
-pub fn call_words(call: Call) -> &'static str {
+pub(crate) fn call_words(call: Call) -> &'static str {
     match call {
         Call::Open => "open",
         Call::BillingHours => "billing hours",
@@ -38,8 +38,8 @@ pub fn call_words(call: Call) -> &'static str {
     }
 }
 
-// A ground of document 01's table.
-pub fn ground_words(ground: u32) -> &'static str {
+// A ground of document 01's table, which is a number, as in `Figures`, which crosses C.
+pub(crate) fn ground_words(ground: u32) -> &'static str {
     match ground {
         1 => "the billing meter's hours",
         2 => "the billing meter's volume, by the peak rule",
@@ -56,7 +56,7 @@ pub fn ground_words(ground: u32) -> &'static str {
 }
 
 // The clause under which a volume was found.
-pub fn clause_words(clause: Option<Clause>) -> &'static str {
+pub(crate) fn clause_words(clause: Option<Clause>) -> &'static str {
     match clause {
         Some(Clause::Missed) => "point 166: the month has no billing reading",
         Some(Clause::DeniedTwice) =>
@@ -67,8 +67,8 @@ pub fn clause_words(clause: Option<Clause>) -> &'static str {
     }
 }
 
-// The sentence of a refusal.
-pub fn refusal_words(refusal: u32) -> &'static str {
+// The sentence of a refusal, which is a number, as in `Answer`, which crosses C.
+pub(crate) fn refusal_words(refusal: u32) -> &'static str {
     match refusal {
         1 => "the store has not 10,416 words",
         2 => "the record is not open, or a field, a month or a reading in it is outside its limits",
@@ -100,7 +100,7 @@ pub fn refusal_words(refusal: u32) -> &'static str {
 }
 
 // The sentence of an error.
-pub fn error_words(error: Error) -> &'static str {
+pub(crate) fn error_words(error: Error) -> &'static str {
     match error {
         Error::LongLine => "the line is longer than 16,384 bytes",
         Error::Foreign => "a byte that is no text",

@@ -53,6 +53,10 @@ row_fits_lem {size} {r} {t} e =
     let q = both (eqb size 10416) (leb r 13) p.0 in
     record { size = eqb-true _ _ q.0; row = leb-true _ _ q.1; hours = leb-true _ _ p.1 }
 
+pub row_there : {size r t : ℕ} → size ≡ 10416 → r ≤ 13 → t ≤ 744 → row_fits size r t ≡ true
+unfolding row_fits
+row_there {size} {r} {t} whole row few = rw (eq-eqb size 10416 whole, le-leb r 13 row, le-leb t 744 few)
+
 -- hours written into such a store make the row
 pub written_in_lem : (r : ℕ) (hours store : List ℕ) → r ≤ 13 → length hours ≤ 744 → length store ≡ 10416
     → written_in r hours store ≡ put_row r (as_row hours) store
@@ -72,13 +76,7 @@ read_there size r t room e =
     let fits = row_fits_lem p.0 in
     record { size = fits.size; row = fits.row; hours = fits.hours; room = leb-true _ _ p.1 }
 
--- the part of the store from the row's start, copied over a buffer
-pub row_read : (store : List ℕ) (r t : ℕ) (buffer after : List ℕ) → row_fits (length store) r t && leb t (length buffer) ≡ true
-    → after ≡ padded (length buffer) (take (744 * r + t - 744 * r) (drop (744 * r) store)) → after ≡ read_from store r t buffer
-unfolding read_from
-row_read store r t buffer after there e = rw (there, e, add-sub_cancel_left (744 * r) t)
-
--- and of a row and a buffer that are there
+-- what is read of a row and into a buffer that are there
 pub read_from_lem : (store : List ℕ) (r t : ℕ) (buffer : List ℕ) → length store ≡ 10416 → r ≤ 13 → t ≤ 744 → t ≤ length buffer
     → read_from store r t buffer ≡ padded (length buffer) (row_part store r t)
 unfolding read_from row_fits

@@ -2,9 +2,9 @@
 // so that no other word can change.
 #![tactic(auto)]
 
-ghost use Rattle.std.specs.Prelude.{◌≡◌, cond, ◌&&◌, [], ◌≤◌, eqb, length};
+ghost use Rattle.std.specs.Prelude.{◌≡◌, true, cond, ◌&&◌, [], ◌≤◌, eqb, length};
 ghost use Rattle.numbers.specs.Lists.{padded};
-ghost use Rattle.store.specs.Store.{row_fits, written_in, read_from, empty_store, store_fits};
+ghost use Rattle.store.specs.Store.{row_part, row_fits, written_in, read_from, empty_store, store_fits};
 
 use numbers::{clear, none_above};
 
@@ -39,29 +39,34 @@ pub fn write_row(store: &mut [u32], row: usize, hours: &[u32])
     }
 }
 
+// The first t hours of a row that the store has, as a part of it. Row and hours are numbers beside the store, which is one
+// list in C; where a past month names them they are `PastMonth`.
+#[tactic(auto, using(crate::proofs::Laws::row_fits_lem))]
+pub fn row_hours(store: &[u32], row: usize, t: usize) -> &[u32]
+    requires { row_fits (length store.now) row t ≡ true }
+    ensures { result.now ≡ row_part store.now row t }
+{
+    let start = 744 * row;
+    let end = start + t;
+    &store[start..end]
+}
+
 // The first t hours of row r into a buffer, with 0 from t on. A store that is not 14 rows, a row that it does not have, and
 // more hours than a row or the buffer holds leave the buffer as it was.
-#[tactic(auto, using(crate::proofs::Laws::read_there, crate::proofs::Laws::row_read), unfolding(crate::specs::Store::read_from))]
+#[tactic(auto, using(crate::proofs::Laws::read_there), unfolding(crate::specs::Store::read_from))]
 pub fn read_row(store: &[u32], row: usize, t: usize, hours: &mut [u32])
     ensures { hours.new ≡ read_from store.now row t hours.old }
 {
-    if row_fits(store.len(), row, t) & (t <= hours.len()) {
-        let from = 744 * row;
-        let to = from + t;
-        copy_row(hours, &store[from..to]);
+    if row_fits(store.len(), row, t) && t <= hours.len() {
+        copy_row(hours, row_hours(store, row, t));
     }
 }
 
 // Row r becomes 0, and the rest stays.
-#[tactic(auto, using(crate::proofs::Laws::row_fits_lem, crate::proofs::Laws::written_part, crate::proofs::Laws::padded_none), unfolding(crate::specs::Store::written_in))]
 pub fn clear_row(store: &mut [u32], row: usize)
     ensures { store.new ≡ written_in row [] store.old }
 {
-    if row_fits(store.len(), row, 0) {
-        let from = 744 * row;
-        let to = from + 744;
-        clear(&mut store[from..to]);
-    }
+    write_row(store, row, &[]);
 }
 
 // Every word becomes 0, as an opening leaves the store; a store that is not 14 rows stays as it was.

@@ -10,6 +10,10 @@ has_room room text written = leb (length written + length text) room
 abbrev pub with_text : ℕ → List ℕ → List ℕ → List ℕ
 with_text room text written = cond (has_room room text written) (written ++ text) written
 
+-- the same of the rest of a room: how many bytes it has, and those of it that are written
+abbrev pub rest_with : List ℕ → ℕ × List ℕ → ℕ × List ℕ
+rest_with text rest = (rest.0, with_text rest.0 text rest.1)
+
 -- A NUMBER WAS PUT: its digits in base ten, as few as it has
 pub record Numbered (room n : ℕ) (before after : List ℕ) : Type 0 where
   pub count : ℕ

@@ -1,4 +1,5 @@
-// Number 2: whether a record is one that a point can have. Each function tests one part, in the order of its definition.
+// Number 2: whether a record is one that a point can have. Each function tests one part, in the order of its definition. The
+// fields are numbers of any bits, since C gives the record, and here is where they are judged.
 #![tactic(auto)]
 
 ghost use Rattle.std.specs.Prelude.{◌≡◌, ◌+◌, ◌<◌};
@@ -64,6 +65,7 @@ fn year_fits(y: u32, k: u32, d: Date) -> bool
     (y == 0) | ((2014..=2999).contains(&y) & (month_number(month) < month_number(d)))
 }
 
+// A loop over the places of the rows: with `all` over the same range the proof did not close.
 fn years_fit(years: [u32; 12], d: Date) -> bool
     ensures { result ≡ all_to (year_fits years d) 12 }
 {

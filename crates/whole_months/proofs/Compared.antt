@@ -20,14 +20,17 @@ marked = set (zeros 744) 10 3
 abbrev row : List ℕ
 row = set (set (zeros 744) 10 5) 20 15
 
--- V 16 by the past gives hour 10 a quarter; C' is 0 with R 2, without peak hours, without a past, with N above K, and with any other reading
+-- V 16 by the past gives hour 10 a quarter; C' is 0 with N above K; there is none with R 2, without peak hours, without a past, and with any other
+-- reading
 sums :
-    (compared_in (january marked 3 missing (whole 20) 4 (Some row)) ≡ 4) × (compared_in (january marked 2 missing (whole 20) 4 (Some row)) ≡ 0)
-    × (compared_in (january (set (zeros 744) 10 2) 3 missing (whole 20) 4 (Some row)) ≡ 0)
-    × (compared_in (january marked 3 missing (whole 20) 4 None) ≡ 0)
-    × (compared_in (january marked 3 missing (whole 20) 24 (Some row)) ≡ 0)
-    × (compared_in (january marked 3 (whole 20) (whole 20) 4 (Some row)) ≡ 0)
-    × (compared_in (january marked 3 missing (hourly row) 4 (Some row)) ≡ 0) × (compared_in (january marked 3 missing missing 4 (Some row)) ≡ 0)
+    (compared_in (january marked 3 missing (whole 20) 4 (Some row)) ≡ Some 4)
+    × (compared_in (january marked 2 missing (whole 20) 4 (Some row)) ≡ None)
+    × (compared_in (january (set (zeros 744) 10 2) 3 missing (whole 20) 4 (Some row)) ≡ None)
+    × (compared_in (january marked 3 missing (whole 20) 4 None) ≡ None)
+    × (compared_in (january marked 3 missing (whole 20) 24 (Some row)) ≡ Some 0)
+    × (compared_in (january marked 3 (whole 20) (whole 20) 4 (Some row)) ≡ None)
+    × (compared_in (january marked 3 missing (hourly row) 4 (Some row)) ≡ None)
+    × (compared_in (january marked 3 missing missing 4 (Some row)) ≡ None)
 unfolding reason_definitions
 sums = (refl, refl, refl, refl, refl, refl, refl, refl)
 
@@ -44,7 +47,7 @@ whole_answer :
     }) row) marked
     ≡ record {
       clause = Some DeniedTwice;
-      reading = kwh 20;
+      reading = Some (kwh 20);
       neighbour = kwh 4;
       power = record { 0 = 3 };
       peaks = 1;
@@ -52,7 +55,7 @@ whole_answer :
       denials = 2;
       counted = 3;
       past = Some (on 2022 1);
-      compared = kwh 4;
+      compared = Some (kwh 4);
     }
 unfolding reason_definitions
 whole_answer = refl

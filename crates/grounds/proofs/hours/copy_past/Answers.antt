@@ -5,4 +5,4 @@ use Rattle.grounds.proofs.hours.copy_past.Goals as goal
 
 pub loop-h-preserved : goal.loop-h-preserved
 loop-h-preserved c =
-    (omega arith, filled_more c.loop-h.invariant.1 (omega arith) c.past_at.ensures.0)
+    (omega arith, filled_more c.loop-h.invariant.1 (omega arith) c.past_at.ensures)

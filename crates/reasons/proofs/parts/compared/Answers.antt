@@ -19,14 +19,14 @@ pub by_past-requires-clause-store_value : goal.by_past-requires-clause-store_val
 by_past-requires-clause-store_value c =
     let k = known_in c.args.month.now c.requires in (k.fits, omega (arith, c.less-v.ensures, k.control))
 
-pub returns-then-due : goal.returns-then-due
-unfolding inputs
-returns-then-due c =
-    compared_due (known_in c.args.month.now c.requires) _ c.find_past.ensures c.in-Some.is c.args.month.now.surveyed c.counted.ensures
-    c.if-due.true (c.less-v.ensures ∙ rw c.neighbour.ensures) c.open_hours-t.ensures c.by_past.ensures.hours
-    c.capacity_sum.ensures
+pub returns-then-not-due : goal.returns-then-not-due
+returns-then-not-due c =
+    compared_not (known_in c.args.month.now c.requires) _ c.find_past.ensures c.in-Some.is c.args.month.now.surveyed c.counted.ensures
+    c.if-not-due.true
 
 pub returns : goal.returns
+unfolding inputs
 returns c =
-    compared_not (known_in c.args.month.now c.requires) _ c.find_past.ensures c.in-Some.is c.args.month.now.surveyed c.counted.ensures
-    c.if-due.false
+    compared_due (known_in c.args.month.now c.requires) _ c.find_past.ensures c.in-Some.is c.args.month.now.surveyed c.counted.ensures
+    c.if-not-due.false (c.less-v.ensures ∙ rw c.neighbour.ensures) c.open_hours-t.ensures c.by_past.ensures.hours
+    c.capacity_sum.ensures
