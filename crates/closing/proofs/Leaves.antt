@@ -82,7 +82,8 @@ taken r store marks buffer e = known r store marks buffer (is_accepted _ _ e ref
 figures_are : (u : Outcome) (marks : List ℕ) (t : ℕ) {f : Found} {hours : List ℕ} {c : Kwh} {d : ℕ} {g : Figures} → Right t u → t ≤ 744
     → OutcomeFound u f hours
     → c.0 ≡ capacity_sum marks hours → d ≡ days_in marks
-    → g ≡ record { ground = ground_number f.ground; volume = f.volume; capacity = record { 0 = capacity_in c.0 d }; sum = c; days = d } → g ≡ figures u marks
+    → g ≡ record { ground = ground_number f.ground; volume = f.volume; capacity = record { 0 = capacity_in c.0 d }; sum = c; days = d }
+    → g ≡ figures u marks
 unfolding figures
 figures_are u marks t {hours = hours} {c = c} right few found total days e =
     let long : length u.hours ≤ 744 = omega (arith, right.long) in

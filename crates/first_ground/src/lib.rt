@@ -28,7 +28,7 @@ use rules::Ground;
 use units::{Kw, Kwh};
 
 // R: the run plus 1, and 3 if that is less while denials are 2.
-// It stays public beside the method of this name, and promises it of any such part of a record.
+// It is public beside the method of this name, and promises it of any such part of a record.
 #[tactic(auto, unfolding(rules::specs::Rules::counted_of))]
 pub fn counted(s: Service) -> u32
     requires { s.run ≤ 12000 }
@@ -40,7 +40,7 @@ pub fn counted(s: Service) -> u32
 
 // N: the first neighbour reading if given, else the second, else 0, which is document 01's value and not a sign of none: V is
 // taken less N.
-// It stays public beside the method, and promises it of any such part of a record.
+// It is public beside the method, and promises it of any such part of a record.
 #[tactic(auto, using(crate::proofs::Firsts::neighbour_first, crate::proofs::Firsts::neighbour_second, crate::proofs::Firsts::neighbour_none))]
 pub fn neighbour_volume(g: Readings) -> Kwh
     ensures { result.0 ≡ neighbour_of (stated_in g.first) (stated_in g.second) }
@@ -62,7 +62,7 @@ pub fn less(volume: Kwh, neighbour: Kwh) -> Kwh
 }
 
 // P of the contract.
-// It stays public beside the method, and promises it of any contract.
+// It is public beside the method, and promises it of any contract.
 #[tactic(auto, using(crate::proofs::Firsts::cable_power_is, crate::proofs::Firsts::agreed_power_is))]
 pub fn point_power(c: Contract) -> Kw
     requires { c.basis ≡ 3 → cable_fits c.cable ≡ true }

@@ -3,7 +3,6 @@ use Prim.Native.Nat.{ℕ, ◌-◌, ◌*◌, ◌≤◌, ◌<◌}
 use mathlib.Core.Path.{◌≡◌, refl, ◌∙◌}
 use mathlib.Core.Bool.{Bool, true, false, ◌&&◌}
 use mathlib.Core.List.{List}
-use native.Mathlib.Nat.{mul_comm, mul-le-mul}
 use native.Mathlib.Omega.{arith}
 use borrow.Author.Tests.{le-leb, eq-eqb}
 use lib.Dec.{ltb}
@@ -127,17 +126,20 @@ module _ {store : List ℕ} {v r past t : ℕ} {buffer : List ℕ} (l : BuffersF
 -- by the peak rule, or any sharing of a volume that fits a month
 pub month_found : (g : Ground) (v t : ℕ) (buffer hs : List ℕ) {after : List ℕ} {done : Bool} → v ≤ greatest_volume_read → 1 ≤ t → t ≤ 744
     → length buffer ≡ 744
-    → Shared (month_fits v t (length buffer)) hs buffer after done → HoursFound (ground_number g) v hs (record { ground = g; volume = record { 0 = v } }) after
+    → Shared (month_fits v t (length buffer)) hs buffer after done
+    → HoursFound (ground_number g) v hs (record { ground = g; volume = record { 0 = v } }) after
 month_found g v t buffer hs small some few room s =
     record { ground = refl; volume = refl; hours = filled_by s (month_there v t (length buffer) small some few room) room }
 
 -- evenly
-pub even_there : (v t room : ℕ) → v ≤ greatest_volume_read → 1 ≤ t → t ≤ 744 → room ≡ 744 → month_fits v (length (every_hour t)) room ≡ true
+pub even_there : (v t room : ℕ) → v ≤ greatest_volume_read → 1 ≤ t → t ≤ 744 → room ≡ 744
+    → month_fits v (length (every_hour t)) room ≡ true
 even_there v t room small some few e = rw (length_every t few) (month_there v t room small some few e)
 
 pub even_found : (g : Ground) (v t : ℕ) (buffer : List ℕ) {after : List ℕ} {done : Bool}
     → v ≤ greatest_volume_read → 1 ≤ t → t ≤ 744 → length buffer ≡ 744
-    → Shared (month_fits v (length (every_hour t)) (length buffer)) (shares_over v (chosen_at (every_hour t)) (ones (length (every_hour t)))) buffer after done
+    → Shared (month_fits v (length (every_hour t)) (length buffer))
+    (shares_over v (chosen_at (every_hour t)) (ones (length (every_hour t)))) buffer after done
     → HoursFound (ground_number g) v (shares v (ones t)) (record { ground = g; volume = record { 0 = v } }) after
 even_found g v t buffer small some few room s =
     let there = rw (length_every t few) at s in
@@ -147,9 +149,6 @@ even_found g v t buffer small some few room s =
 -- a volume of at most 1,000,000 an hour fits a month
 month_within : (v t : ℕ) → t ≤ 744 → v ≤ 1000000 * t → v ≤ greatest_volume_read
 month_within v t few l = omega arith
-
-pub agreed_most : (t p : ℕ) {v : ℕ} → v ≡ t * p → p ≤ 1000000 → t ≤ 744 → v ≤ greatest_volume_read
-agreed_most t p e small few = month_within _ t few (rw (e, mul_comm t p) (mul-le-mul small (omega arith)))
 
 pub cable_most : (k : Cable) (t : ℕ) {v : ℕ} → v ≡ formula_in k t → cable_fits k ≡ true → t ≤ 744 → v ≤ greatest_volume_read
 cable_most k t e fits few =

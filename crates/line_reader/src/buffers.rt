@@ -63,7 +63,7 @@ pub(crate) fn write(
     ensures group_after { group.new ≡ written_group before after group.old }
 {
     let (from, to, inner) = (before.count, after.count, before.inner);
-    // A `match`, since the actions are closed and hold what is written: each names the call that follows
+    // A `match`, since the actions are closed and hold what is written: each names the call that follows.
     match after.action {
         Some(Action::Number(value)) => write_part(numbers, from, to, |_| value),
         Some(Action::InGroup(value)) => write_part(group, inner, after.inner, |_| value),

@@ -36,7 +36,7 @@ impl Line {
     pub(crate) fn with_value(self, key: Argument, value: u64) -> Line
         ensures { result ≡ with_value key value self }
     {
-        // One element of an array is changed, for which there is no struct update
+        // One element of an array is changed, for which there is no struct update.
         let mut values = self.values;
         values[key.index()] = Some(value);
         Line { values, ..self }

@@ -138,7 +138,7 @@ impl Line {
         match t.kind {
             Kind::Foreign => self.fail(Error::Foreign, t.from),
             Kind::Long => self.fail(Error::Large, t.from),
-            // A `match`, since the modes are closed and hold what is read next: each names the function that follows
+            // A `match`, since the modes are closed and hold what is read next: each names the function that follows.
             _ => match self.mode {
                 Mode::Call => self.in_call(t),
                 Mode::Value(key) => self.in_value(t, key),
@@ -204,7 +204,7 @@ pub fn read_line(
     ensures { line_read result numbers.new group.new ≡ read_line hours first line.now numbers.old group.old }
 {
     let mut s = fresh_line();
-    // a `while`, since it counts nothing: how many tokens a line has is known at its end only
+    // A `while`, since it counts nothing: how many tokens a line has is known at its end only.
     while !s.mode.is_finished() {
         s = read_token(line, s, hours, first, numbers, group);
     }

@@ -29,7 +29,7 @@ pub fn is_capacity(mark: u8) -> bool
     (mark == 2) | (mark == 3)
 }
 
-// Whether no mark is above 3. It stays as it was public; it is `none_above` at 3, with the definition in its contract.
+// Whether no mark is above 3: `none_above` at 3, under a name of its own for those who call this crate.
 pub fn none_high(marks: &[u8]) -> bool
     ensures { result ≡ none_above 3 marks.now }
 {

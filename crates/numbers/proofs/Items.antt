@@ -6,7 +6,7 @@ use Prim.Native.Nat.{ℕ, zero, suc, ◌+◌}
 use native.Mathlib.Omega.{arith}
 use lib.Dec.{leb}
 use lib.ListN.{length, get_or, take}
-use Rattle.std.specs.List.{fold, sum_by, list_all}
+use Rattle.std.specs.List.{sum_by, list_all}
 use Rattle.std.specs.Ordering.{as_partial_cmp, is_le, nat_cmp, partial_le}
 use Rattle.std.proofs.lemmas.Bool.Decides.{nat_tests}
 use Rattle.std.proofs.lemmas.List.Sums.{sum_by-cons}
@@ -37,11 +37,6 @@ pub all_by_to : {X : Type 0} (f : X → Bool) (d : X) (xs : List X) → list_all
 all_by_to f d [] = refl
 all_by_to f d (x ∷ xs) =
     ap (λ (b : Bool). f x && b) (all_by_to f d xs) ∙ sym (all_front (λ k. f (get_or (x ∷ xs) k d)) (length xs))
-
--- a flag that is folded over the tests of all items
-pub fold_and : {X : Type 0} (f : X → Bool) (b : Bool) (xs : List X) → fold (λ ok x. ok && f x) b xs ≡ b && list_all f xs
-fold_and f b [] = and_true b
-fold_and f b (x ∷ xs) = fold_and f (b && f x) xs ∙ and_assoc b (f x) (list_all f xs)
 
 -- tests that agree at each item
 all_same : {X : Type 0} (f g : X → Bool) → ((x : X) → f x ≡ g x) → (xs : List X) → list_all f xs ≡ list_all g xs

@@ -37,7 +37,8 @@ served given serving denials =
     (with_billing no_readings (record { given = given; volume = kwh 0 }))
 
 clauses :
-    (clause_of (served 1 1 0) ≡ None) × (clause_of (served 1 0 2) ≡ None) × (clause_of (served 0 1 0) ≡ Some Missed) × (clause_of (served 0 1 1) ≡ Some Missed)
+    (clause_of (served 1 1 0) ≡ None) × (clause_of (served 1 0 2) ≡ None)
+    × (clause_of (served 0 1 0) ≡ Some Missed) × (clause_of (served 0 1 1) ≡ Some Missed)
     × (clause_of (served 0 0 0) ≡ Some OutOfService) × (clause_of (served 0 0 1) ≡ Some OutOfService)
     × (clause_of (served 0 1 2) ≡ Some DeniedTwice) × (clause_of (served 0 0 2) ≡ Some DeniedTwice)
 unfolding clause_of

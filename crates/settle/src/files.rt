@@ -30,16 +30,16 @@ pub fn write_half<const N: usize>(rt: &impl Print, answers: &mut Buffer<N>) -> i
 
 // A command that plays: its options, how many files it has begun, and what plays them.
 #[derive(Drop)]
-pub struct Session {
+pub struct Command {
     options: Options,
     file: u64,
     player: Player<ANSWERS_ROOM>,
 }
 
-impl Session {
+impl Command {
     // Nothing is played.
-    pub fn new(options: Options) -> Session {
-        Session {
+    pub fn new(options: Options) -> Command {
+        Command {
             options,
             file: 0,
             player: Player {

@@ -29,7 +29,7 @@ pub enum Step {
 }
 
 impl History {
-    // Nothing is read. The session owns the player and writes its answers between files, so it is lent to each function here.
+    // Nothing is read. The command owns the player and writes its answers between files, so it is lent to each function here.
     pub fn new() -> History {
         History {
             line: Buffer::new(),

@@ -5,7 +5,7 @@ mod files;
 mod input;
 mod options;
 
-use files::Session;
+use files::Command;
 use options::{Task, find_options, print_help, print_unknown};
 use std::env::Env;
 use std::fs::Files;
@@ -16,7 +16,7 @@ use std::io::Input;
 fn run(rt: &(impl Env + Files + Input + Print)) -> io::Result<()> {
     let options = find_options(rt);
     match options.task {
-        Task::Play => Session::new(options).play(rt),
+        Task::Play => Command::new(options).play(rt),
         Task::Help => print_help(rt),
         Task::Unknown(i) => {
             print_unknown(rt, i)?;

@@ -9,11 +9,11 @@ use native.Mathlib.Decide.{dec_lt}
 use borrow.Author.Tests.{eq-eqb, ne_eqb, eqb-true, eqb-false, leb-true, lt-leb, lt-ltb, le-ltb}
 use lib.Dec.{eqb, leb}
 use lib.ListN.{length, get_or-eq_default}
-use Rattle.numbers.specs.Lists.{tab, sum_to, sum, at, padded}
+use Rattle.numbers.specs.Lists.{tab, sum_to, sum, at}
 use Rattle.numbers.proofs.Laws.{sum_tab, sum_same, sum_ones, sum_both, tab_same, length_tab, at_tab, by_cases, both, and_false, cond_most}
 use Rattle.units.specs.Volumes.{greatest_volume_read}
 use Rattle.sharing.specs.Shares.{one, others, within, or_weights, taken, share, spread, shares_over, apart_at, shares_apart, shares, every}
-use Rattle.sharing.specs.Shares.{past_at, month_fits, weights_fit, share_in, Shared}
+use Rattle.sharing.specs.Shares.{past_at, month_fits, weights_fit, share_in}
 use Rattle.sharing.specs.Limits.{MonthFits}
 use Rattle.sharing.proofs.Laws.{Near, sum_spread, sum_share, near_share, share_whole, length_spread, at_spread, share_same, spread_same}
 
@@ -200,25 +200,9 @@ month_fits_lem {v} {t} {room} e =
       room = leb-true _ _ p.1;
     }
 
-pub month_unfit : (v t room : ℕ) → greatest_volume_read < v → month_fits v t room ≡ false
-unfolding month_fits
-month_unfit v t room l = rw (lt-leb v greatest_volume_read l)
-
 pub month_long : (v t room : ℕ) → 744 < t → month_fits v t room ≡ false
 unfolding month_fits
 month_long v t room l = rw (lt-leb t 744 l) (rw (and_false (leb v greatest_volume_read && leb 1 t)))
-
--- what a function answers where it shared, and where it refused
-pub shared_yes : {fits r : Bool} {hours before after : List ℕ}
-    → fits ≡ true → r ≡ true → after ≡ padded (length before) hours → Shared fits hours before after r
-shared_yes e f g = record { done = rw (e, f); left = rw e g }
-
-pub shared_and : {first fits r : Bool} {hours before after : List ℕ} → first ≡ true → Shared fits hours before after r
-    → Shared (first && fits) hours before after r
-shared_and e shared = rw e shared
-
-pub shared_no : {fits r : Bool} {hours before : List ℕ} → fits ≡ false → r ≡ false → Shared fits hours before before r
-shared_no e f = record { done = rw (e, f); left = rw e }
 
 -- what the proof of one place's share looks into
 unfoldable pub share_definitions : Unit {0}
