@@ -12,7 +12,8 @@ const LINE_ROOM: usize = 16384;
 const CHUNK: usize = 65536;
 
 // A file that is played: the bytes of its line, whether there were too many, and the store of its point. A line with too many
-// bytes is an error and no shorter line, so that neither the flag nor the bytes are the other's value.
+// bytes is an error and no shorter line, so that neither the flag nor the bytes are the other's value. The player goes from file
+// to file, so it is the command's, and is lent to each function here.
 #[derive(Drop)]
 pub struct History {
     line: Buffer<LINE_ROOM>,
@@ -29,7 +30,7 @@ pub enum Step {
 }
 
 impl History {
-    // Nothing is read. The command owns the player and writes its answers between files, so it is lent to each function here.
+    // Nothing is read.
     pub fn new() -> History {
         History {
             line: Buffer::new(),
