@@ -45,6 +45,11 @@ fn fits(volume: u64, t: usize, room: usize) -> bool {
     volume <= VOLUME_MAX && (1..=ROW).contains(&t) && t <= room
 }
 
+// x / d rounded half up; d is above 0.
+fn half_up(x: u64, d: u64) -> u64 {
+    (2 * x + d) / (2 * d)
+}
+
 #[inline(never)]
 fn share_rust(volume: u64, store: &[u32], row: usize, t: usize, chosen: &[bool], hours: &mut [u32]) -> bool {
     if store.len() != STORE || row > 13 || t > ROW || !fits(volume, chosen.len(), hours.len()) {
@@ -69,7 +74,7 @@ fn share_rust(volume: u64, store: &[u32], row: usize, t: usize, chosen: &[bool],
         };
         if w != 0 {
             passed += w;
-            let next = volume * passed / whole;
+            let next = half_up(volume * passed, whole);
             *hour = (next - done) as u32;
             done = next;
         }
@@ -92,7 +97,7 @@ fn peak_rust(volume: u64, power: u32, marks: &[u8], hours: &mut [u32]) -> bool {
         // one of the two parts has no hours of its own, and goes evenly over all
         let (mut x, mut y) = (0, 0);
         for (h, hour) in hours.iter_mut().enumerate().take(marks.len()) {
-            let (x1, y1) = (a * (h as u64 + 1) / t, b * (h as u64 + 1) / t);
+            let (x1, y1) = (half_up(a * (h as u64 + 1), t), half_up(b * (h as u64 + 1), t));
             *hour = (x1 - x + y1 - y) as u32;
             (x, y) = (x1, y1);
         }
@@ -102,12 +107,12 @@ fn peak_rust(volume: u64, power: u32, marks: &[u8], hours: &mut [u32]) -> bool {
     for (hour, &m) in hours.iter_mut().zip(marks) {
         if is_peak(m) {
             i += 1;
-            let next = a * i / n;
+            let next = half_up(a * i, n);
             *hour = (next - x) as u32;
             x = next;
         } else {
             j += 1;
-            let next = b * j / (t - n);
+            let next = half_up(b * j, t - n);
             *hour = (next - y) as u32;
             y = next;
         }

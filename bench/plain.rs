@@ -175,6 +175,11 @@ fn check(scan: impl Fn(&[u32], u32) -> bool, r: &Record, store: &[u32], marks: &
     Ok(survey)
 }
 
+// x / d rounded half up, and 0 where d is 0.
+fn half_up(x: u64, d: u64) -> u64 {
+    if d == 0 { 0 } else { (2 * x + d) / (2 * d) }
+}
+
 // Sharing.
 
 // A sharing under way: V and S, and of both what the hours so far have.
@@ -194,7 +199,7 @@ impl Sharing {
     fn next(&mut self, weight: u64) -> u32 {
         self.passed += weight;
         let before = self.done;
-        self.done = self.volume * self.passed / self.whole;
+        self.done = half_up(self.volume * self.passed, self.whole);
         (self.done - before) as u32
     }
 }
@@ -331,10 +336,6 @@ fn settle(r: &Record, survey: &Survey, store: &[u32], marks: &[u8], hours: &mut 
             (8, volume)
         }
     }
-}
-
-fn half_up(sum: u64, days: u64) -> u64 {
-    if days == 0 { 0 } else { (2 * sum + days) / (2 * days) }
 }
 
 fn close_by(scan: impl Fn(&[u32], u32) -> bool, r: Record, store: &mut [u32], marks: &[u8], hours: &mut [u32]) -> Answer {

@@ -411,7 +411,9 @@ uint32_t sallowbingo_month_days(uint64_t year, uint64_t month);
 /* Opens a point in the month of date, in service, with all else 0 or missing,
  * and clears the store. On basis 1 or 2 the power asked for is the agreed one;
  * on basis 2 it is shared in list order by the currents of the points' cables,
- * one word a point, and place is the point's own in that list, counted from 0.
+ * one word a point, and place is the point's own in that list, counted from 0:
+ * the points up to any one have together the whole kW nearest to what is theirs,
+ * and of two equally near the greater.
  * The other bases don't look at currents and place.
  * Refusals: 1 STORE_LENGTH, 10 OPENING_MONTH, 11 METER_KIND, 12 BASIS,
  * 13 CABLE_VALUE, 14 CURRENTS. */

@@ -16,7 +16,8 @@ pub struct Record(pub(crate) raw::Record);
 ///
 /// On [`basis::AGREED`](crate::basis::AGREED) and [`basis::SHARED`](crate::basis::SHARED) the contract's power is the
 /// agreed one. On the second it is shared by the currents of the points' cables, and `place` is the point's place in
-/// that list, counted from 0. What the basis does not use is ignored, and what the store held too. Refused with 1 and
+/// that list, counted from 0: the points up to any one have together the whole kW nearest to what is theirs, and of two
+/// equally near the greater. What the basis does not use is ignored, and what the store held too. Refused with 1 and
 /// 10 to 14.
 pub fn open(
     contract: Contract,

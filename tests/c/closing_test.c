@@ -379,11 +379,12 @@ static void grounds_2(void) {
     CHECK(ground_2(r, 728, 3));
     r = integral_april(728), expect_april(3, 3, 3, 3, 1); /* none */
     CHECK(ground_2(r, 728, 3));
-    /* V = 5 is less than 12: floors of 5/4, 10/4, 15/4, 20/4 are 1, 2, 3, 5 */
-    r = integral_april(5), expect_april(1, 1, 1, 2, 0);
-    CHECK(ground_2(r, 5, 1));
-    /* V = 13: the one that is left goes to the last of the other hours */
-    r = integral_april(13), expect_april(3, 3, 3, 3, 0), expected[719] = 1;
+    /* V = 5 is less than 12: 5/4, 10/4, 15/4, 20/4 are 1.25, 2.5, 3.75, 5, rounded half up 1, 3, 4, 5 */
+    r = integral_april(5), expect_april(1, 2, 1, 1, 0);
+    CHECK(ground_2(r, 5, 2));
+    /* V = 13: the one that is left goes to the 358th of the 716 other hours, where 358/716 is a half. Eight of them lie
+     * before the peaks, and so it is hour 357 + 4. */
+    r = integral_april(13), expect_april(3, 3, 3, 3, 0), expected[361] = 1;
     CHECK(ground_2(r, 13, 3));
     /* N above B, and equal to it: V = 0, and the row of zeros is kept */
     r = with_first(integral_april(10), 12);
@@ -399,8 +400,8 @@ static void grounds_2(void) {
     /* The capacity hour may lie off the peaks: hour 20 and not 9; billing goes before control. */
     r = with_control(integral_april(728), 0), marks[9] = 1, marks[20] = 2, expect_april(3, 3, 3, 3, 1);
     CHECK(ground_2(r, 728, 1));
-    /* No peaks: 721 evenly over 720 hours, of which the last gets 2 */
-    r = integral_april(721), memset(marks, 0, sizeof marks), fill(expected, 1, 720), expected[719] = 2;
+    /* No peaks: 721 evenly over 720 hours, of which the 360th gets 2: 721 × 360/720 = 360.5, rounded 361 */
+    r = integral_april(721), memset(marks, 0, sizeof marks), fill(expected, 1, 720), expected[359] = 2;
     CHECK(closes(r, 720, of(2, 721, 0, 0, 0), keeping(after(r, 0, 721, 2023, 5), 2023, 4)));
 }
 
@@ -449,20 +450,20 @@ static void ground_4(void) {
     record r = with_second(control_february(0, 10), 11);
     row(1)[0] = 3;
     CHECK(closes(r, 672, of(4, 0, 0, 0, 0), after(r, 1, 0, 2023, 3)));
-    /* a past of zeros: all weights are 1, and 673 over 672 hours leaves 2 for the last */
+    /* a past of zeros: all weights are 1, and of 673 the 336th hour gets 2: 673 × 336/672 = 336.5, rounded 337 */
     r = control_february(0, 673);
-    fill(expected, 1, 672), expected[671] = 2;
+    fill(expected, 1, 672), expected[335] = 2;
     CHECK(closes(r, 672, of(4, 673, 0, 0, 0), after(r, 1, 673, 2023, 3)));
-    /* 10 by 1, 1, 1: 3, 3, 4, example b) */
+    /* 10 by 1, 1, 1: 3, 4, 3, example b) */
     r = control_february(0, 10);
     row(1)[100] = row(1)[101] = row(1)[671] = 1;
-    expected[100] = expected[101] = 3, expected[671] = 4;
+    expected[100] = expected[671] = 3, expected[101] = 4;
     CHECK(closes(r, 672, of(4, 10, 0, 0, 0), after(r, 1, 10, 2023, 3)));
-    /* A past that is short: February 2023 in April. Hour 504 counts again at hour 672, so 7 is shared as 3 and 4; the
+    /* A past that is short: February 2023 in April. Hour 504 counts again at hour 672, so 7 is shared as 4 and 3; the
      * row's own word 672 is not of February. */
     r = with_control(keeping(fresh(agreed(1, 2, 3), 2023, 4), 2023, 2), 7);
     begin(), fill(row(1), 0, 672), row(1)[504] = 1, row(1)[672] = 1000;
-    expected[504] = 3, expected[672] = 4;
+    expected[504] = 4, expected[672] = 3;
     CHECK(closes(r, 720, of(4, 7, 0, 0, 0), after(r, 1, 7, 2023, 5)));
     /* A past that is long: January 2023 in February. Its hour 700 has no place. */
     r = with_control(keeping(fresh(agreed(1, 2, 3), 2023, 2), 2023, 1), 7);
@@ -552,7 +553,7 @@ static void ground_7(void) {
 }
 
 static void ground_8(void) {
-    /* no past: 4 kW over 672 hours, and over 744 with a share of 10 kW by 1, 1, 1 at place 2, which is 4 */
+    /* no past: 4 kW over 672 hours, and over 744 with a share of 10 kW by 1, 1, 1 at place 2, which is 3, example g) */
     begin(), mark(0, 8, 4, 9);
     record r = fresh(agreed(1, 2, 4), 2023, 2);
     fill(expected, 4, 672);
@@ -560,8 +561,8 @@ static void ground_8(void) {
     static const uint32_t currents[] = {1, 1, 1};
     begin(), mark(0, 8, 4, 9);
     r = sallowbingo_open_point(shared(1, 0, 10), on(2023, 3), currents, 3, 2, store, SALLOWBINGO_STORE).after;
-    fill(expected, 4, 744);
-    CHECK(closes(r, 744, of(8, 2976, 4, 1, 4), after(r, 1, 2976, 2023, 4)));
+    fill(expected, 3, 744);
+    CHECK(closes(r, 744, of(8, 2232, 3, 1, 3), after(r, 1, 2232, 2023, 4)));
     /* a share of 0 */
     begin();
     r = fresh(shared(2, 1, 0), 2023, 4);
@@ -574,31 +575,121 @@ static void ground_8(void) {
     CHECK(closes(r, 744, of(8, 744000000, 31000000, 31, 1000000), after(r, 1, 744000000, 2023, 6)));
 }
 
-/* Example e): 41.4 kWh an hour over April's 720 hours are 29,808. The floors of 41.4, 82.8, 124.2, 165.6 and 207 are 41,
- * 82, 124, 165 and 207: five hours have 41, 41, 42, 41, 42, over and over. With one phase 13.8 an hour, 9,936: the floors
- * are 13, 27, 41, 55, 69 and the hours 13, 14, 14, 14, 14. */
+/* Example e): 41.4 kWh an hour over April's 720 hours are 29,808. 41.4, 82.8, 124.2, 165.6 and 207 are rounded 41, 83,
+ * 124, 166 and 207: five hours have 41, 42, 41, 42, 41, over and over. With one phase 13.8 an hour, 9,936: 13.8, 27.6,
+ * 41.4, 55.2 and 69 are rounded 14, 28, 41, 55, 69, and the hours are 14, 14, 13, 14, 14. */
 static void ground_9(void) {
-    static const uint32_t three[] = {41, 41, 42, 41, 42}, one[] = {13, 14, 14, 14, 14};
+    static const uint32_t three[] = {41, 42, 41, 42, 41}, one[] = {14, 14, 13, 14, 14};
     begin(), mark(0, 8, 4, 9), mark(1, 8, 4, 9);
     record r = fresh(cabled(1, 2, (sallowbingo_cable){100, 230, 0, 3}), 2023, 4);
     for (size_t h = 0; h < 720; h++) expected[h] = three[h % 5];
-    /* capacity hours 9 and 33: the fifth and the fourth of five, 42 + 41 = 83, 41.5 rounded 42 */
+    /* capacity hours 9 and 33: the fifth and the fourth of five, 41 + 42 = 83, 41.5 rounded 42 */
     CHECK(closes(r, 720, of(9, 29808, 83, 2, 42), after(r, 1, 29808, 2023, 5)));
     begin();
     r = fresh(cabled(2, 0, (sallowbingo_cable){100, 230, 900, 1}), 2023, 4);
     for (size_t h = 0; h < 720; h++) expected[h] = one[h % 5];
     CHECK(closes(r, 720, of(9, 9936, 0, 0, 0), after(r, 1, 9936, 2023, 5)));
-    /* Example f): the formula at 720 hours is 1.5 and so 2, though at 1 it is 0; the floor of 2 × (h + 1) / 720 grows at
-     * hours 359 and 719. R = 3, so the past doesn't count. */
+    /* Example f): the formula at 720 hours is 1.5 and so 2, though at 1 it is 0; 2 × (h + 1) / 720 is a half at hour
+     * 179 and one and a half at hour 539. R = 3, so the past doesn't count. */
     begin();
     r = with_run(keeping(fresh(cabled(1, 1, (sallowbingo_cable){1, 25, 125, 1}), 2023, 4), 2022, 4), 2);
-    expected[359] = expected[719] = 1;
+    expected[179] = expected[539] = 1;
     CHECK(closes(r, 720, of(9, 2, 0, 0, 0), after(r, 3, 2, 2023, 5)));
     /* the greatest cable: 2,000 × 250,000 × 1,000 / 500,000 = 1,000,000 an hour, in a leap February */
     begin();
     r = fresh(cabled(1, 1, (sallowbingo_cable){2000, 250000, 1000, 3}), 2400, 2);
     fill(expected, 1000000, 696);
     CHECK(closes(r, 696, of(9, 696000000, 0, 0, 0), after(r, 1, 696000000, 2400, 3)));
+}
+
+/* HALVES, in a closing. The comments name what a floor, and what a half rounded down, would give. */
+
+/* February 2023 on ground 4: a volume by the weights of hours 100, 101 and 671. Hour 101 is the only capacity hour. */
+static int splits(uint64_t volume, const uint32_t weights[3], const uint32_t hours[3]) {
+    static const size_t places[] = {100, 101, 671};
+    record r = control_february(0, volume);
+    for (size_t k = 0; k < COUNT(places); k++) row(1)[places[k]] = weights[k], expected[places[k]] = hours[k];
+    marks[101] = 2;
+    return closes(r, 672, of(4, volume, hours[1], 1, hours[1]), after(r, 1, volume, 2023, 3));
+}
+
+#define LIST(...) (const uint32_t[]){__VA_ARGS__}
+
+static void halves_by_weight(void) {
+    /* 3.33, 6.67, 10: 3, 7, 10, example b); the floors 3, 6, 10 */
+    CHECK(splits(10, LIST(1, 1, 1), LIST(3, 4, 3)));
+    /* 2.5, 5: 3, 5, example c) by weights; a floor and a half rounded down 2, 5 */
+    CHECK(splits(5, LIST(1, 1, 0), LIST(3, 2, 0)));
+    /* 0.5, 1: 1, 1; a floor and a half rounded down 0, 1 */
+    CHECK(splits(1, LIST(1, 1, 0), LIST(1, 0, 0)));
+    /* 0.5, 1.5, 2: 1, 2, 2; a floor and a half rounded down 0, 1, 2; a half to the even number 0, 2, 2 */
+    CHECK(splits(2, LIST(1, 2, 1), LIST(1, 1, 0)));
+    /* 1.25, 3.75, 5: 1, 4, 5, no half among them; the floors 1, 3, 5 */
+    CHECK(splits(5, LIST(1, 2, 1), LIST(1, 3, 1)));
+    /* By 1,000,001 of 2,000,003, just less than a half, 0; by 1,000,001 of 2,000,001, just above it, 1. */
+    CHECK(splits(1, LIST(1000001, 1000002, 0), LIST(0, 1, 0)));
+    CHECK(splits(1, LIST(1000001, 1000000, 0), LIST(1, 0, 0)));
+    /* 336 by a past of zeros, as in example c): 0.5, 1, 1.5 .. are 1, 1, 2 .., so 1 and 0 by turns; a floor and a half
+     * rounded down give 0 and 1 by turns, and nothing to hour 0, the capacity hour */
+    record r = control_february(0, 336);
+    marks[0] = 2;
+    for (size_t h = 0; h < 672; h += 2) expected[h] = 1;
+    CHECK(closes(r, 672, of(4, 336, 1, 1, 1), after(r, 1, 336, 2023, 3)));
+}
+
+/* The peak rule, on ground 5, peaks at hours 8 and 9 with capacity hour 8 and P = 3. */
+static void halves_by_peaks(void) {
+    /* V = 5, all of it on the peaks: 2.5 and 5, so 3 and 2, example h); a floor and a half rounded down give 2 and 3 */
+    begin(), mark(0, 8, 2, 8);
+    record r = with_control(fresh(agreed(1, 2, 3), 2023, 2), 5);
+    expected[8] = 3, expected[9] = 2;
+    CHECK(closes(r, 672, of(5, 5, 3, 1, 3), after(r, 1, 5, 2023, 3)));
+    /* V = 341: A = 6; 335 over the other 670 hours, 0.5, 1, 1.5 .., so 1 and 0 by turns, 8 of them before the peaks */
+    begin(), mark(0, 8, 2, 8);
+    r = with_control(r, 341);
+    for (size_t h = 0; h < 672; h += 2) expected[h] = 1;
+    expected[8] = expected[9] = 3;
+    CHECK(closes(r, 672, of(5, 341, 3, 1, 3), after(r, 1, 341, 2023, 3)));
+}
+
+/* The test between grounds 6 and 5 takes the hours as shared. V = 7 by 1 and 1: 3.5, rounded 4, so C' = 4, and 6 × 1 <
+ * 2 × 4 is ground 6. With C' = 3 of a floor or a half rounded down, 6 × 1 < 2 × 3 would be false. */
+static void half_decides(void) {
+    record r = control_february(2, 7);
+    mark(0, 8, 2, 8), row(1)[8] = row(1)[100] = 1;
+    expected[8] = 4, expected[100] = 3;
+    CHECK(closes(r, 672, of(6, 7, 4, 1, 4), after(r, 3, 7, 2023, 3)));
+    /* The other way round: the capacity hour, 104, is the second with a weight and has 3, so ground 5. A floor or a
+     * half rounded down would give it 4, and ground 6. The peaks, 104 and 105, get 3 each, and the one that is left
+     * goes to the 335th of the other 670 hours, where 335/670 is a half: hour 334 + 2. */
+    r = control_february(2, 7);
+    mark(4, 8, 2, 8), row(1)[100] = row(1)[104] = 1;
+    expected[104] = expected[105] = 3, expected[336] = 1;
+    CHECK(closes(r, 672, of(5, 7, 3, 1, 3), after(r, 3, 7, 2023, 3)));
+}
+
+/* P on basis 2: at that place in the list of currents a point gets that share of the power, and March 2023 on ground 8
+ * has it in each of its 744 hours. */
+static int gets(uint32_t power, const uint32_t *currents, size_t points, size_t place, uint32_t share) {
+    begin(), mark(0, 8, 4, 9);
+    sallowbingo_contract asked = shared(1, 0, power);
+    answer a = sallowbingo_open_point(asked, on(2023, 3), currents, points, place, store, SALLOWBINGO_STORE);
+    if (a.refusal != 0 || !same(a.after, fresh(shared(1, 0, share), 2023, 3))) return 0;
+    fill(expected, share, 744);
+    return closes(a.after, 744, of(8, 744 * share, share, 1, share), after(a.after, 1, 744 * share, 2023, 4));
+}
+
+static void halves_of_power(void) {
+    /* 10 kW by 1, 1, 1: 3.33, 6.67, 10 are rounded 3, 7, 10; the floors 3, 6, 10 give place 1 3 and place 2 4 */
+    CHECK(gets(10, LIST(1, 1, 1), 3, 0, 3));
+    CHECK(gets(10, LIST(1, 1, 1), 3, 1, 4));
+    CHECK(gets(10, LIST(1, 1, 1), 3, 2, 3));
+    /* 5 kW by 1, 1: 2.5, rounded 3; a floor and a half rounded down give 2 and 3 */
+    CHECK(gets(5, LIST(1, 1), 2, 0, 3));
+    CHECK(gets(5, LIST(1, 1), 2, 1, 2));
+    /* 1 kW by 1, 1: all of it at place 0, and a share of 0 at place 1 */
+    CHECK(gets(1, LIST(1, 1), 2, 0, 1));
+    CHECK(gets(1, LIST(1, 1), 2, 1, 0));
 }
 
 /* THE PAST, THE RUN AND THE MARKS */
@@ -850,6 +941,12 @@ static void greatest_hours(void) {
     fill(row(0), 3000000, 744), fill(expected, 1000000, 744);
     next.contract = agreed(2, 2, 1000000), next = with_control(next, 744000000);
     CHECK(closes(next, 744, of(4, 744000000, 1000000, 1, 1000000), after(next, 1, 1488000000, 2024, 2)));
+    /* Half a kWh an hour less, 743,999,628: 999,999.5, 1,999,999, 2,999,998.5 .. are rounded half up, and so even hours
+     * get 1,000,000 and odd ones, the capacity hour among them, 999,999. */
+    record less = with_control(next, 743999628);
+    for (size_t h = 1; h < 744; h += 2) expected[h] = 999999;
+    CHECK(closes(less, 744, of(4, 743999628, 999999, 1, 999999), after(less, 1, 1487999628, 2024, 2)));
+    fill(expected, 1000000, 744);
     /* The greatest volume on few peaks: n = 16, P = 1,000,000, A = 16,000,000; the other 728 hours get 1,000,000 each. By
      * the past C' is 1,000,000 as well: 16,000,000 × 1 < 16 × 1,000,000 is false, ground 5. */
     next = with_run(next, 2);
@@ -876,6 +973,10 @@ int main(void) {
     ground_7();
     ground_8();
     ground_9();
+    halves_by_weight();
+    halves_by_peaks();
+    half_decides();
+    halves_of_power();
     choice_of_past();
     length_of_past();
     run_and_denials();

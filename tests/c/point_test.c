@@ -107,11 +107,15 @@ static void openings(void) {
     answer a = sallowbingo_open_point(agreed(1, 2, 100), on(2023, 2), NULL, 0, 9, store, SALLOWBINGO_STORE);
     CHECK(accepted(a, fresh(agreed(1, 2, 100), 2023, 2)));
     CHECK(cleared());
-    /* example g): 10 kW by 1, 1, 1, place 2 */
-    sallowbingo_contract shared = agreed(2, 0, 10), kept = agreed(2, 0, 4);
+    /* example g): 10 kW by 1, 1, 1: 3.33, 6.67 and 10, rounded half up 3, 7, 10; place 2 gets 10 - 7, place 1 7 - 3 */
+    sallowbingo_contract shared = agreed(2, 0, 10), kept = agreed(2, 0, 3);
     shared.basis = kept.basis = 2;
     shared.cable.volts = 230;
     CHECK(accepted(sallowbingo_open_point(shared, on(2014, 1), currents, 3, 2, store, SALLOWBINGO_STORE), fresh(kept, 2014, 1)));
+    kept.power.kw = 4;
+    a = sallowbingo_open_point(shared, on(2014, 1), currents, 3, 1, store, SALLOWBINGO_STORE);
+    CHECK(accepted(a, fresh(kept, 2014, 1)));
+    /* 1 kW, place 0: 0.33, rounded 0 */
     shared.power.kw = 1, kept.power.kw = 0;
     CHECK(accepted(sallowbingo_open_point(shared, on(2014, 1), currents, 3, 0, store, SALLOWBINGO_STORE), fresh(kept, 2014, 1)));
     /* a cable, kept as given; the power asked for is not used and kept as 0 */
@@ -121,15 +125,16 @@ static void openings(void) {
     CHECK(accepted(sallowbingo_open_point(cable, on(2999, 12), NULL, 0, 0, store, SALLOWBINGO_STORE), fresh(alone, 2999, 12)));
 }
 
-/* A list of 64, the longest, with equal currents. Place 63 gets the power less the floor of 63/64 of it, place 62 that
- * floor less the floor of 62/64. In the last line power times current, summed up, passes a multiple of 2^32. */
+/* A list of 64, the longest, with equal currents. Place k gets (k + 1)/64 of the power less k/64 of it, each rounded
+ * half up. Of 100, 63/64 are 98.4 and 62/64 96.9: place 63 gets 100 - 98, and place 62 98 - 97. 1 kW goes to place 31,
+ * where 32/64 is a half. In the last line power times current, summed up, passes a multiple of 2^32. */
 static void longest_list(void) {
     static uint32_t list[64];
     static const struct {
         uint32_t current, power, share;
         size_t place;
-    } shared[] = {{1, 64, 1, 63}, {1, 100, 2, 63}, {1, 1, 1, 63}, {1, 1, 0, 62}, {2000, 1000000, 15625, 63},
-                  {2000, 1000000, 15625, 62}};
+    } shared[] = {{1, 64, 1, 63}, {1, 100, 2, 63}, {1, 100, 1, 62}, {1, 1, 1, 31}, {1, 1, 0, 30}, {1, 1, 0, 32},
+                  {1, 1, 0, 63}, {2000, 1000000, 15625, 63}, {2000, 1000000, 15625, 62}};
     for (size_t k = 0; k < COUNT(shared); k++) {
         for (size_t n = 0; n < COUNT(list); n++) list[n] = shared[k].current;
         sallowbingo_contract asked = agreed(1, 1, shared[k].power), kept = agreed(1, 1, shared[k].share);

@@ -172,10 +172,10 @@ static record march(record r) {
 }
 
 /* A denial, a control volume of 400 and a neighbour's, of whose sources the first counts, 5; R = 2: ground 4, V = 395
- * shared by February, S = 790. So hour h gets floor(s(h)/2) less that floor at h - 1. Every day's sum is even, so within
- * a day s is 1 to 9, then even at hour 9, then goes on by 1: even hours get 0, odd ones 1, and hour 9 floor(12/2) -
- * floor(9/2) = 2, on the first day floor(22/2) - 4 = 7. C = 7 + 2 + 2 = 11, d = 3, capacity 3 2/3 and so 4. The total is
- * 3,042 + 395 = 3,437. */
+ * shared by February, S = 790. So hour h gets s(h)/2, rounded half up, less the same at h - 1. Every day's sum is even,
+ * so within a day s is 1 to 9, then even at hour 9, then goes on by 1: even hours get 1, odd ones 0. 9/2 is rounded 5,
+ * so hour 9 gets 12/2 - 5 = 1, on the first day 22/2 - 5 = 6. C = 6 + 1 + 1 = 8, d = 3, capacity 2 2/3 and so 3. The
+ * total is 3,042 + 395 = 3,437. */
 static record april(record r) {
     begin();
     CHECK(accepted(sallowbingo_deny(r, store, WORDS), &r));
@@ -187,13 +187,13 @@ static record april(record r) {
     CHECK(accepted(sallowbingo_read_neighbour(r, store, WORDS, SALLOWBINGO_NEIGHBOUR_BILLING, kwh(5)), &r));
     CHECK(refused(sallowbingo_read_neighbour(r, store, WORDS, SALLOWBINGO_NEIGHBOUR_BILLING, kwh(5)),
                   SALLOWBINGO_REFUSAL_ALREADY_GIVEN, r));
-    fill(expected, 30, 0, 1);
-    for (size_t day = 0; day < 30; day++) expected[DAY * day + 9] = 2;
-    expected[9] = 7;
+    fill(expected, 30, 1, 0);
+    for (size_t day = 0; day < 30; day++) expected[DAY * day + 9] = 1;
+    expected[9] = 6;
     for (size_t day = 0; day < 3; day++) mark(day, 8, 4, 9);
     answer a = close_month(r, 30);
     CHECK_CLOSED(a, (closing){SALLOWBINGO_GROUND_CONTROL_BY_PAST,
-                             .volume = 395, .c = 11, .d = 3, .capacity = 4, .total = 3437, .run = 2});
+                             .volume = 395, .c = 8, .d = 3, .capacity = 3, .total = 3437, .run = 2});
     return a.after;
 }
 
@@ -223,7 +223,8 @@ static record may(record r) {
 /* A permission, which leaves the run: R = 4. A control volume of 400, the neighbour's second source 10, V = 390. Five days
  * with peaks at 8 to 11 and capacity hour 11: n = 20, A = 40, d = 5. By February an hour 11 has an exact share of 390/790
  * and so at most 1, C' at most 5: A × d = 200 is not less than n × C', at most 100. Ground 5: 2 in each peak hour; 350
- * evenly over the other 700, so 0 and 1 by turns, and a day has an even number of them before and after its peaks.
+ * evenly over the other 700, 0.5, 1, 1.5 .. rounded half up 1, 1, 2 .., so 1 and 0 by turns, and a day has an even
+ * number of them before and after its peaks.
  * C = 5 × 2 = 10, capacity 2. The total is 4,253 + 390 = 4,643. */
 static record june(record r) {
     begin();
@@ -231,7 +232,7 @@ static record june(record r) {
     CHECK(refused(sallowbingo_permit(r, store, WORDS), SALLOWBINGO_REFUSAL_NO_DENIAL, r));
     CHECK(accepted(sallowbingo_read_control_volume(r, store, WORDS, kwh(400)), &r));
     CHECK(accepted(sallowbingo_read_neighbour(r, store, WORDS, SALLOWBINGO_NEIGHBOUR_CONTROL, kwh(10)), &r));
-    fill(expected, 30, 0, 1);
+    fill(expected, 30, 1, 0);
     for (size_t day = 0; day < 5; day++) {
         mark(day, 8, 4, 11);
         for (size_t h = 8; h < 12; h++) expected[DAY * day + h] = 2;
@@ -294,19 +295,20 @@ static record september(record r) {
 }
 
 /* A control volume of 372 and R = 1: ground 4 by September, whose hours are 0, so all weights are taken as 1. Hour h gets
- * floor((h + 1)/2) - floor(h/2): even hours 0, odd ones 1. Capacity hours 9, 9 and 10 of three days: C = 1 + 1 + 0 = 2,
- * d = 3, capacity 2/3 and so 1. The total is 6,947 + 372 = 7,319. Before that, closings with a wrong mark and buffer. */
+ * (h + 1)/2 less h/2, each rounded half up: even hours 1, odd ones 0. Capacity hours 10, 10 and 9 of three days: C = 2,
+ * 1 + 1 + 0, d = 3, capacity 2/3 and so 1. The total is 6,947 + 372 = 7,319. Before that, closings with a wrong mark
+ * and buffer. */
 static record october(record r) {
     begin();
     CHECK(accepted(sallowbingo_read_control_volume(r, store, WORDS, kwh(372)), &r));
     CHECK(refused(sallowbingo_read_control_volume(r, store, WORDS, kwh(372)), SALLOWBINGO_REFUSAL_ALREADY_GIVEN, r));
-    mark(0, 8, 4, 9), mark(1, 8, 4, 9), mark(2, 8, 4, 10);
+    mark(0, 8, 4, 10), mark(1, 8, 4, 10), mark(2, 8, 4, 9);
     marks[743] = SALLOWBINGO_MARK_BOTH + 1;
     CHECK(refused(close_month(r, 31), SALLOWBINGO_REFUSAL_MARK, r));
     marks[743] = SALLOWBINGO_MARK_ORDINARY;
     CHECK(refused(sallowbingo_close(r, store, WORDS, marks, 744, buffer, SALLOWBINGO_ROW - 1),
                   SALLOWBINGO_REFUSAL_BUFFER_LENGTH, r));
-    fill(expected, 31, 0, 1);
+    fill(expected, 31, 1, 0);
     answer a = close_month(r, 31);
     CHECK_CLOSED(a, (closing){SALLOWBINGO_GROUND_CONTROL_BY_PAST,
                              .volume = 372, .c = 2, .d = 3, .capacity = 1, .total = 7319, .run = 1});

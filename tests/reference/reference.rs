@@ -1,4 +1,5 @@
-// Reference program for document 01, "Estimated consumption at a delivery point".
+// Reference program for document 01, "Estimated consumption at a delivery point", with the requests
+// of document 02 that have landed: E2, "The odd kWh drifts to the month's end".
 //
 // Two accounts of the specification stand here side by side:
 //   point  a record and a store of 10,416 words, changed call by call;
@@ -145,7 +146,7 @@ pub mod rules {
         half_up(sum as u128, days as u128)
     }
 
-    /// Quotient rounded half up; 0 for a divisor of 0.
+    /// Quotient rounded half up, as capacity, cable formula and shares are; 0 for a divisor of 0.
     fn half_up(dividend: u128, divisor: u128) -> u64 {
         if divisor == 0 {
             return 0;
@@ -186,18 +187,19 @@ pub mod rules {
         values.iter().map(|v| *v as u128).sum()
     }
 
-    /// "hour h gets floor(V × s(h)/S) less that same floor at h−1 (0 before the first)"
+    /// "hour h gets floor(V × s(h)/S) less that same floor at h−1 (0 before the first)", where "each
+    /// floor becomes a rounding half up of the same quotient" (02, E2; reading 24).
     pub fn share(volume: u64, weights: &[u64]) -> Vec<u64> {
         let weights = usable(weights);
         let all = sum_of(&weights);
         let mut so_far: u128 = 0;
-        let mut floor_before: u128 = 0;
+        let mut rounded_before: u64 = 0;
         let mut hours = Vec::with_capacity(weights.len());
         for weight in &weights {
             so_far += *weight as u128;
-            let floor = volume as u128 * so_far / all;
-            hours.push(narrow(floor - floor_before));
-            floor_before = floor;
+            let rounded = half_up(volume as u128 * so_far, all);
+            hours.push(rounded - rounded_before);
+            rounded_before = rounded;
         }
         hours
     }
@@ -242,6 +244,7 @@ pub mod rules {
 
     /// Basis 2: "an agreed power for 1 to 64 points, shared in list order by the currents of their
     /// cables (000, 004), and the point's place in the list, counted from 0; the share may be 0".
+    /// "Sharing of power among points changes too" (02, E2; reading 25).
     pub fn share_of_power(power: u32, currents: &[u32], place: u32) -> u64 {
         let weights: Vec<u64> = currents.iter().map(|c| *c as u64).collect();
         let shares = share(power as u64, &weights);
@@ -1586,8 +1589,10 @@ mod tests {
 
     #[test]
     fn examples_b_c_d_sharing() {
-        assert_eq!(share(10, &[1, 1, 1]), [3, 3, 4]);
-        assert_eq!(share(5, &[0, 0]), [2, 3]);
+        // "so example b) reads 3, 4, 3; the other examples with sharing are worked again by the
+        // same rule": 3 1/3, 6 2/3 and 10 are 3, 7 and 10; 2 1/2 is 3; 5 1/4 is 5.
+        assert_eq!(share(10, &[1, 1, 1]), [3, 4, 3]);
+        assert_eq!(share(5, &[0, 0]), [3, 2]);
         assert_eq!(share(7, &[3, 0, 1]), [5, 0, 2]);
     }
 
@@ -1612,7 +1617,9 @@ mod tests {
 
     #[test]
     fn example_g_list() {
-        assert_eq!(share_of_power(10, &[1, 1, 1], 2), 4);
+        assert_eq!(share_of_power(10, &[1, 1, 1], 0), 3);
+        assert_eq!(share_of_power(10, &[1, 1, 1], 1), 4);
+        assert_eq!(share_of_power(10, &[1, 1, 1], 2), 3);
         assert_eq!(share_of_power(10, &[1, 1, 1], 3), 0);
     }
 
@@ -1620,9 +1627,9 @@ mod tests {
     fn examples_h_i_peak_rule() {
         let marks = [0, 1, 0, 1, 0, 0];
         assert_eq!(peak_rule(10, 3, &marks).0, [1, 3, 1, 3, 1, 1]);
-        assert_eq!(peak_rule(5, 3, &marks).0, [0, 2, 0, 3, 0, 0]);
+        assert_eq!(peak_rule(5, 3, &marks).0, [0, 3, 0, 2, 0, 0]);
         assert_eq!(peak_rule(4, 0, &marks).0, [1, 0, 1, 0, 1, 1]);
-        assert_eq!(peak_rule(10, 3, &[0, 0, 2]).0, [3, 3, 4]);
+        assert_eq!(peak_rule(10, 3, &[0, 0, 2]).0, [3, 4, 3]);
     }
 
     #[test]
@@ -1662,6 +1669,114 @@ mod tests {
         let february: Vec<u64> = (0..672).collect();
         let hours = stretch(&february, hours_of(2024, 2));
         assert_eq!((hours.len(), hours[671], hours[672], hours[695]), (696, 671, 504, 527));
+    }
+
+    // ---- Sharing ----
+
+    /// A half goes to the greater number, so to the earlier hour; the last hour makes up V.
+    #[test]
+    fn halves_in_shares() {
+        assert_eq!(share(1, &[1, 1]), [1, 0]);
+        assert_eq!(share(3, &[1, 1]), [2, 1]);
+        assert_eq!(share(1, &[1, 1, 1, 1]), [0, 1, 0, 0]);
+        assert_eq!(share(2, &[1, 1, 1, 1]), [1, 0, 1, 0]);
+        assert_eq!(share(1, &[5, 0, 0, 5]), [1, 0, 0, 0]);
+        assert_eq!(share(1, &[499, 501]), [0, 1]);
+        assert_eq!(share_of_power(1, &[16, 16], 0), 1);
+        assert_eq!(share_of_power(1, &[16, 16], 1), 0);
+    }
+
+    #[test]
+    fn shares_of_one_hour_and_of_nothing() {
+        for volume in [0, 1, 744_000_000, u64::MAX] {
+            assert_eq!(share(volume, &[1]), [volume]);
+            assert_eq!(share(volume, &[3_000_000]), [volume]);
+            assert_eq!(share(volume, &[0]), [volume]);
+        }
+        assert_eq!(share(0, &[1, 0, 2]), [0, 0, 0]);
+        assert_eq!(share(0, &[0, 0, 0]), [0, 0, 0]);
+        assert_eq!(share(5, &[]), [0; 0]);
+    }
+
+    /// A volume and its weights: small and large ones, all weights 0 too, in a list of 1 to 744.
+    fn any_sharing(dice: &mut Dice) -> (u64, Vec<u64>) {
+        let mut one_of = |limits: &[u64]| limits[dice.below(limits.len() as u64) as usize];
+        let volumes = one_of(&[1, 10, 1_000, 744_000_000]);
+        let lengths = one_of(&[1, 3, 24, 64, 744]);
+        let top = one_of(&[0, 1, 2, 50, 2_000, 3_000_000]);
+        let volume = dice.below(volumes + 1);
+        (volume, (0..=dice.below(lengths)).map(|_| dice.below(top + 1)).collect())
+    }
+
+    /// "If S = 0, all weights are taken as 1 (H)."
+    fn taken(weights: &[u64]) -> Vec<i128> {
+        let none = weights.iter().all(|w| *w == 0);
+        weights.iter().map(|w| if none { 1 } else { *w as i128 }).collect()
+    }
+
+    /// "Users still see sums that fit and hours less than one kWh from their share" (02, E2), the
+    /// latter "when hour × S and V × w(h) differ by less than S". A weight of 0 has a share of 0.
+    #[test]
+    fn shares_of_random_lists() {
+        let (mut dice, mut single, mut even, mut idle) = (Dice(2), 0, 0, 0);
+        for _ in 0..20_000 {
+            let (volume, weights) = any_sharing(&mut dice);
+            let (hours, taken) = (share(volume, &weights), taken(&weights));
+            assert_eq!(hours.len(), weights.len());
+            assert_eq!(hours.iter().sum::<u64>(), volume, "{volume} by {weights:?}");
+            let s: i128 = taken.iter().sum();
+            for (weight, hour) in taken.iter().zip(&hours) {
+                let apart = (*hour as i128 * s - volume as i128 * weight).abs();
+                assert!(apart < s, "{volume} by {weights:?}: {hour} for {weight}");
+                assert!(*weight > 0 || *hour == 0, "{volume} by {weights:?}: {hour} for 0");
+                idle += (*weight == 0) as u32;
+            }
+            let exact = exact_shares(volume, &weights);
+            assert!(exact.iter().zip(&hours).all(|(e, h)| e.is_near(*h)), "{volume}: {weights:?}");
+            single += (hours.len() == 1) as u32;
+            even += weights.iter().all(|w| *w == 0) as u32;
+        }
+        assert!(single > 1_000 && even > 1_000 && idle > 1_000, "{single} {even} {idle}");
+    }
+
+    /// Hours 0 to h have together V × s(h)/S rounded half up: that quotient lies at most one half
+    /// below their sum and less than one half above it.
+    #[test]
+    fn running_sums_of_random_lists() {
+        let (mut dice, mut halves) = (Dice(20), 0);
+        for _ in 0..20_000 {
+            let (volume, weights) = any_sharing(&mut dice);
+            let taken = taken(&weights);
+            let s: i128 = taken.iter().sum();
+            let (mut so_far, mut together) = (0, 0);
+            for (weight, hour) in taken.iter().zip(share(volume, &weights)) {
+                so_far += *weight;
+                together += hour as i128;
+                let above = 2 * volume as i128 * so_far - 2 * together * s;
+                assert!((-s..s).contains(&above), "{volume} by {weights:?}: {together}");
+                halves += (above == -s) as u32;
+            }
+        }
+        assert!(halves > 1_000, "{halves}");
+    }
+
+    /// "Records opened earlier keep their P" (reading 25): P is worked out at the opening alone, and
+    /// a record with another P is sound and settles by that.
+    #[test]
+    fn a_record_keeps_its_power() {
+        let (mut record, mut store) = (Record::default(), vec![9; STORE]);
+        let one_of_three = Opening {
+            basis: 2,
+            power: 10,
+            currents: vec![1, 1, 1],
+            place: 2,
+            ..contract_of_40_kw(1, 0)
+        };
+        ok(point::open(&mut record, &mut store, &one_of_three));
+        assert_eq!(record.contract.power, 3);
+        record.contract.power = 4;
+        assert_eq!(close_plainly(&mut record, &mut store).volume, 4 * 744);
+        assert_eq!(record.contract.power, 4);
     }
 
     // ---- Helpers ----

@@ -1,5 +1,6 @@
-// What `settle --tab` has to print, read from docs/HISTORY-FILE.md and document 01 alone. The point itself is the
-// reference's; tokens, grammar, weekdays and the figures of a sheet are worked out here.
+// What `settle --tab` has to print, read from docs/HISTORY-FILE.md, document 01 and the landed requests of document 02
+// (E2) alone. The point itself is the reference's; tokens, grammar, weekdays and the figures of a sheet are worked out
+// here.
 
 #[allow(dead_code)]
 #[path = "../reference/reference.rs"]
@@ -540,7 +541,7 @@ impl Closing<'_> {
         let cosine = if contract.cosine == 0 { 900 } else { u64::from(contract.cosine) };
         let divisor = if contract.phases == 1 { 1_500_000 } else { 500_000 };
         let product = u64::from(contract.amperes) * u64::from(contract.volts) * cosine;
-        (product + divisor / 2) / divisor
+        half_up(u128::from(product), divisor)
     }
 
     /// R: the run plus 1, and 3 if that is less while denials are 2.
@@ -611,7 +612,12 @@ impl Closing<'_> {
     }
 }
 
-/// Hour h gets floor(V × s(h)/S) less that same floor at h − 1; if S = 0, all weights are taken as 1.
+/// The quotient rounded to the nearest whole number, and to the greater of two that are equally near.
+fn half_up(dividend: u128, divisor: u128) -> u64 {
+    ((dividend + divisor / 2) / divisor) as u64
+}
+
+/// Hour h gets V × s(h)/S rounded half up less the same at h − 1; if S = 0, all weights are taken as 1.
 fn share(volume: u64, mut weights: Vec<u64>) -> Vec<u64> {
     if weights.iter().all(|weight| *weight == 0) {
         weights.fill(1);
@@ -620,8 +626,8 @@ fn share(volume: u64, mut weights: Vec<u64>) -> Vec<u64> {
     let (mut so_far, mut before) = (0, 0);
     let mut hour = |weight: &u64| {
         so_far += u128::from(*weight);
-        let floor = (u128::from(volume) * so_far / sum) as u64;
-        floor - std::mem::replace(&mut before, floor)
+        let rounded = half_up(u128::from(volume) * so_far, sum);
+        rounded - std::mem::replace(&mut before, rounded)
     };
     weights.iter().map(&mut hour).collect()
 }
@@ -1092,10 +1098,11 @@ mod tests {
         // January 2023 has 22 working days; V = 31 × 24 × 40, n = 22 × 12, A = 264 × 100, C = 22 × 60.
         let expected = [2023, 1, 744, 1, 0, 29_760, 0, 0, 100, 264, 26_400, 22, 1_320, 0, 0, 0, 1, 0, 0, 60, 29_760];
         assert_eq!(sheet(&text), expected);
-        // 21,000 by the past: 25/32 of each hour, so that hour 8 of a day is floor(171.875) − 125 = 46.
+        // 21,000 by the past: 25/32 of each hour, so that a day has 750 and its hour 8 is 171.875 rounded to 172, less
+        // 125: 47.
         let next = format!("{text}\nfailure fault\ncontrol volume 21000\nclose week ({WORKING}) (24*0)");
         let expected =
-            [2023, 2, 672, 4, 179, 21_000, 21_000, 0, 100, 240, 21_000, 20, 920, 0, 0, 0, 1, 2023, 1, 46, 50_760];
+            [2023, 2, 672, 4, 179, 21_000, 21_000, 0, 100, 240, 21_000, 20, 940, 0, 0, 0, 1, 2023, 1, 47, 50_760];
         assert_eq!(sheet(&next), expected);
     }
 
@@ -1103,11 +1110,11 @@ mod tests {
     fn sheet_of_a_volume_read() {
         let text = "open 2023-01 billing integral basis shared power 10 place 2 currents 3*1\nneighbour control 100\n\
                     billing volume 1000\nclose 8*0 3 735*0";
-        // 10 kW by 1, 1, 1 gives place 2 the 4; n = 1, A = 4, which is all in the one peak hour; V = 900.
-        let expected = [2023, 1, 744, 2, 0, 900, 1_000, 100, 4, 1, 4, 1, 4, 0, 0, 0, 1, 0, 0, 4, 900];
+        // 10 kW by 1, 1, 1 is 3, 4, 3, so place 2 has 3; n = 1, A = 3, which is all in the one peak hour; V = 900.
+        let expected = [2023, 1, 744, 2, 0, 900, 1_000, 100, 3, 1, 3, 1, 3, 0, 0, 0, 1, 0, 0, 3, 900];
         assert_eq!(sheet(text), expected);
         let both = text.replace("neighbour control 100", "neighbour control 100\nneighbour billing 2000");
-        let expected = [2023, 1, 744, 2, 0, 0, 1_000, 2_000, 4, 1, 0, 1, 0, 0, 0, 0, 1, 0, 0, 0, 0];
+        let expected = [2023, 1, 744, 2, 0, 0, 1_000, 2_000, 3, 1, 0, 1, 0, 0, 0, 0, 1, 0, 0, 0, 0];
         assert_eq!(sheet(&both), expected);
     }
 
@@ -1126,6 +1133,20 @@ mod tests {
         // The past is even: C' = 28; the peak rule gives each of 336 peak hours 2.
         let expected = [2023, 2, 672, 5, 178, 672, 672, 0, 100, 336, 672, 28, 56, 28, 0, 2, 3, 2023, 1, 2, 744 + 672];
         assert_eq!(sheet(&months("744*1")), expected);
+        // One kWh by an even past: 336/672 at hour 335 is a half, which counts up there: C' = 1, as A × d / n.
+        let half = months("744*1").replace("672", "1").replace(&format!("28*({WORKING})"), "335*0 3 336*0");
+        let expected = [2023, 2, 672, 5, 178, 1, 1, 0, 100, 1, 1, 1, 1, 1, 0, 2, 3, 2023, 1, 1, 744 + 1];
+        assert_eq!(sheet(&half), expected);
+    }
+
+    #[test]
+    fn shares_and_halves() {
+        assert_eq!(share(10, vec![1, 1, 1]), [3, 4, 3]);
+        assert_eq!(share(5, vec![0, 0]), [3, 2]);
+        assert_eq!(share(7, vec![3, 0, 1]), [5, 0, 2]);
+        assert_eq!(share(9, vec![4]), [9]);
+        let quotients = [(0, 2), (1, 2), (7, 2), (1, 3), (2, 3), (7, 5), (8, 5), (2_250_000, 1_500_000)];
+        assert_eq!(quotients.map(|(dividend, divisor)| half_up(dividend, divisor)), [0, 1, 4, 0, 1, 1, 2, 2]);
     }
 
     #[test]
@@ -1144,8 +1165,8 @@ mod tests {
         assert_eq!(sheet(&text), expected);
         let cable =
             "open 2023-04 billing 1 basis cable amperes 100 volts 230 phases 3\nfailure loss\nclose 30*(3 23*0)";
-        // 41.4 kW: 29,808 in 720 hours, P 41. Hour 0 of day k is floor(41.4 (24k + 1)) − floor(41.4 × 24k): k gives
-        // 993.6k + 41.4, a fraction of 0.4 over that of 0.6k, so 42 where 0.6k ends in .6 or .8, 41 else.
+        // 41.4 kW: 29,808 in 720 hours, P 41. Hour 0 of day k is 41.4 (24k + 1) less 41.4 × 24k, both rounded half up:
+        // 993.6k, which ends as 0.6k does, and 41.4 more, so 42 where 0.6k ends in .2 or .4, 41 else.
         let expected =
             [2023, 4, 720, 9, 179, 29_808, 0, 0, 41, 30, 1_230, 30, 41 * 30 + 12, 0, 0, 0, 1, 0, 0, 41, 29_808];
         assert_eq!(sheet(cable), expected);

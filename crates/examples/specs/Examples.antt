@@ -53,20 +53,20 @@ after_march = leaves (leaves (leaves (opened one_kilowatt) (plainly 744)) (plain
 pub record Examples : Type 0 where
   -- a) February: 2023 28 days, 2024 29, 2100 28, 2400 29
   pub a : (month_days (february 2023) ≡ 28) × (month_days (february 2024) ≡ 29) × (month_days (february 2100) ≡ 28) × (month_days (february 2400) ≡ 29)
-  -- b) 10 by 1, 1, 1: 3, 3, 4
-  pub b : shares 10 (1 ∷ 1 ∷ 1 ∷ []) ≡ 3 ∷ 3 ∷ 4 ∷ []
-  -- c) 5 by 0, 0: 2, 3
-  pub c : shares 5 (0 ∷ 0 ∷ []) ≡ 2 ∷ 3 ∷ []
+  -- b) 10 by 1, 1, 1: 3, 4, 3 (E2)
+  pub b : shares 10 (1 ∷ 1 ∷ 1 ∷ []) ≡ 3 ∷ 4 ∷ 3 ∷ []
+  -- c) 5 by 0, 0: 3, 2 (E2)
+  pub c : shares 5 (0 ∷ 0 ∷ []) ≡ 3 ∷ 2 ∷ []
   -- d) 7 by 3, 0, 1: 5, 0, 2
   pub d : shares 7 (3 ∷ 0 ∷ 1 ∷ []) ≡ 5 ∷ 0 ∷ 2 ∷ []
   -- e) 100 A, 230 V, c 0, 720 h: 29,808 with three phases, 9,936 with one
   pub e : (formula (cable 100 230 0 3) 720 ≡ 29808) × (formula (cable 100 230 0 1) 720 ≡ 9936)
   -- f) 1 A, 25 V, c 125, one phase, 720 h: 2
   pub f : formula (cable 1 25 125 1) 720 ≡ 2
-  -- g) 10 kW by 1, 1, 1, place 2: 4
-  pub g : shared_power 10 (1 ∷ 1 ∷ 1 ∷ []) 2 ≡ 4
-  -- h) six hours, peaks at 1 and 3, P 3: V 10 gives 1, 3, 1, 3, 1, 1; V 5 gives 0, 2, 0, 3, 0, 0
-  pub h : (peak_rule 10 3 six ≡ 1 ∷ 3 ∷ 1 ∷ 3 ∷ 1 ∷ 1 ∷ []) × (peak_rule 5 3 six ≡ 0 ∷ 2 ∷ 0 ∷ 3 ∷ 0 ∷ 0 ∷ [])
+  -- g) 10 kW by 1, 1, 1: place 2 has 3, and place 1 has 4 (E2)
+  pub g : (shared_power 10 (1 ∷ 1 ∷ 1 ∷ []) 2 ≡ 3) × (shared_power 10 (1 ∷ 1 ∷ 1 ∷ []) 1 ≡ 4)
+  -- h) six hours, peaks at 1 and 3, P 3: V 10 gives 1, 3, 1, 3, 1, 1; V 5 gives 0, 3, 0, 2, 0, 0 (E2)
+  pub h : (peak_rule 10 3 six ≡ 1 ∷ 3 ∷ 1 ∷ 3 ∷ 1 ∷ 1 ∷ []) × (peak_rule 5 3 six ≡ 0 ∷ 3 ∷ 0 ∷ 2 ∷ 0 ∷ 0 ∷ [])
   -- i) the same, P 0, V 4: 1, 0, 1, 0, 1, 1
   pub i : peak_rule 4 0 six ≡ 1 ∷ 0 ∷ 1 ∷ 0 ∷ 1 ∷ 1 ∷ []
   -- j) C 7, d 2: 4

@@ -6,6 +6,7 @@ use mathlib.Core.List.{List, [], ◌∷◌}
 use lib.ListN.{replicate}
 use Rattle.numbers.specs.Lists.{sum, zeros}
 use Rattle.calendar.specs.Calendar.{leap_year, is_month, month_days, month_hours, open_hours, month_number, next_month}
+use Rattle.numbers.specs.Rounding.{half_up}
 use Rattle.sharing.specs.Shares.{portion, taken, spread, shares_over, stretched}
 use Rattle.power.specs.Power.{shared_power, power_on}
 use Rattle.contract.specs.Contract.{no_cable, kept, power_of}
@@ -208,7 +209,7 @@ fed = (refl, refl, refl)
 -- what unfolds to work a closing out
 unfoldable closing_definitions : Unit {0}
 unfolding book_definitions rules on_billing on_control on_past by_contract evenly by_peaks by_weights as_read stretched shared_power shares_over
-    spread taken portion
+    spread taken portion half_up
     kept power_on power_of open_hours month_hours month_days leap_year is_month
 closing_definitions = tt
 
@@ -228,7 +229,7 @@ grounds :
 unfolding closing_definitions
 grounds = (refl, refl, refl, refl, refl, refl, refl, refl)
 
--- the contract is the opening's, with P on its basis: 10 kW by 1, 1, 1, place 2, is 4
+-- the contract is the opening's, with P on its basis: 10 kW by 1, 1, 1, place 2, is 3
 shared : (inputs_of
     (record {
       asked = record { billing = 1; control = 0; basis = 2; power = record { 0 = 10 }; cable = no_cable };
@@ -236,7 +237,7 @@ shared : (inputs_of
       currents = 1 ∷ 1
           ∷ 1 ∷ [];
       place = 2;
-    }) [] []).contract.power.0 ≡ 4
+    }) [] []).contract.power.0 ≡ 3
 unfolding closing_definitions
 shared = refl
 

@@ -7,6 +7,7 @@ use lib.ListN.{set, replicate}
 use Rattle.numbers.specs.Lists.{at, zeros, padded, none_above}
 use Rattle.calendar.specs.declared.Date.{Date}
 use Rattle.calendar.specs.Calendar.{leap_year, is_month, month_days, month_hours, open_hours, month_number, date_of, next_month}
+use Rattle.numbers.specs.Rounding.{half_up}
 use Rattle.sharing.specs.Shares.{portion, taken, spread, shares_over}
 use Rattle.power.specs.declared.Cable.{Cable}
 use Rattle.power.specs.Power.{cable_fits, agreed_fits, list_fits, shared_power, power_on}
@@ -87,11 +88,11 @@ opening_numbers = (refl, refl, refl, refl, refl, refl, refl, refl, refl, refl, r
 -- what is kept: P on basis 1 and 2, with a share of 0 too, the cable alone on basis 3
 opening_keeps :
     (kept (opening 2023 1 1 0 1 100 (cable 5 5 5 1) (9 ∷ []) 3).asked (9 ∷ []) 3 ≡ contract 1 0)
-    × ((kept (opening 2023 1 1 0 2 1 no_cable [] 0).asked (1 ∷ 1 ∷ []) 0).power.0 ≡ 0)
-    × ((kept (opening 2023 1 1 0 2 1 no_cable [] 0).asked (1 ∷ 1 ∷ []) 1).power.0 ≡ 1)
+    × ((kept (opening 2023 1 1 0 2 1 no_cable [] 0).asked (1 ∷ 1 ∷ []) 0).power.0 ≡ 1)
+    × ((kept (opening 2023 1 1 0 2 1 no_cable [] 0).asked (1 ∷ 1 ∷ []) 1).power.0 ≡ 0)
     × ((kept (opening 2023 1 1 0 3 77 (cable 100 230 0 3) [] 0).asked [] 0).power.0 ≡ 0)
     × ((kept (opening 2023 1 1 0 3 77 (cable 100 230 0 3) [] 0).asked [] 0).cable ≡ cable 100 230 0 3)
-unfolding kept power_on shared_power shares_over spread taken portion
+unfolding kept power_on shared_power shares_over spread taken portion half_up
 opening_keeps = (refl, refl, refl, refl, refl)
 
 -- METER READERS

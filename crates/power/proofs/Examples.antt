@@ -46,8 +46,8 @@ outside = search rules
 
 -- shares in list order, which may be 0, and the limits of a list
 pub lists :
-    (shared_power 10 (1 ∷ 2 ∷ 3 ∷ []) 0 ≡ 1)
-    × (shared_power 10 (1 ∷ 2 ∷ 3 ∷ []) 1 ≡ 4)
+    (shared_power 10 (1 ∷ 2 ∷ 3 ∷ []) 0 ≡ 2)
+    × (shared_power 10 (1 ∷ 2 ∷ 3 ∷ []) 1 ≡ 3)
     × (shared_power 10 (1 ∷ 2 ∷ 3 ∷ []) 2 ≡ 5)
     × (shared_power 1 (1 ∷ 2000 ∷ []) 0 ≡ 0)
     × (list_fits (1 ∷ 1 ∷ 1 ∷ []) 2 ≡ true)
@@ -58,7 +58,7 @@ pub lists :
     × (list_fits (2000 ∷ []) 0 ≡ true)
     × (list_fits (1 ∷ 2001 ∷ []) 0 ≡ false)
     × (list_fits (1 ∷ 0 ∷ []) 0 ≡ false)
-unfolding list_fits shared_power shares_over spread taken portion
+unfolding list_fits shared_power shares_over spread taken portion half_up
 lists = search rules
 
 -- P on each basis, which ignores what it does not use
@@ -70,7 +70,8 @@ pub powers :
     × (basis_fits 1 7 [] 0 (cable 0 0 0 0) ≡ true)
     × (power_on 1 7 [] 0 (cable 0 0 0 0) ≡ 7)
     × (basis_fits 2 10 (1 ∷ 1 ∷ 1 ∷ []) 2 (cable 0 0 0 0) ≡ true)
-    × (power_on 2 10 (1 ∷ 1 ∷ 1 ∷ []) 2 (cable 0 0 0 0) ≡ 4)
+    × (power_on 2 10 (1 ∷ 1 ∷ 1 ∷ []) 1 (cable 0 0 0 0) ≡ 4)
+    × (power_on 2 10 (1 ∷ 1 ∷ 1 ∷ []) 2 (cable 0 0 0 0) ≡ 3)
     × (basis_fits 3 0 [] 0 (cable 2000 250000 1000 3) ≡ true)
     × (power_on 3 0 [] 0 (cable 2000 250000 1000 3) ≡ 1000000)
     × (basis_fits 0 7 (1 ∷ []) 0 (cable 1 1 1 1) ≡ false)

@@ -1,14 +1,14 @@
 -- Even sharing over the chosen of n hours, of which there is one at least: each has weight 1, and the others 0. Assumes nothing.
 use mathlib.Core.Path.{◌≡◌, refl, sym, ◌∙◌}
 use mathlib.Core.Bool.{Bool, true, cond}
-use Prim.Native.Nat.{ℕ, ◌*◌, ◌≤◌, ◌<◌}
+use Prim.Native.Nat.{ℕ, suc, ◌*◌, ◌≤◌, ◌<◌}
 use native.Mathlib.Nat.{mul-zero, mul-one, zero-mul}
 use native.Mathlib.Omega.{arith}
 use borrow.Author.Tests.{ne_eqb}
 use Rattle.numbers.specs.Lists.{sum_to, count_to}
 use Rattle.numbers.proofs.Laws.{by_cases}
-use Rattle.sharing.specs.Shares.{portion, one, taken, share}
-use Rattle.sharing.proofs.Laws.{Near, near_share, share_most}
+use Rattle.sharing.specs.Shares.{one, taken, share}
+use Rattle.sharing.proofs.Laws.{Near, portion_above, near_share, share_most}
 use Rattle.sharing.proofs.Rule.{even_is, taken_sum}
 
 near_at : {r v x y s t : ℕ} → Near r v x s → x ≡ y → s ≡ t → Near r v y t
@@ -36,5 +36,4 @@ module _ (n : ℕ) (chosen : ℕ → Bool) (some : 0 < count_to chosen n) where
 
 -- a volume of 0 gives 0
 pub share_none : (n : ℕ) (w : ℕ → ℕ) (h : ℕ) → share 0 n w h ≡ 0
-unfolding portion
-share_none n w h = simp (zero-mul, native.Mathlib.Nat.zero-div)
+share_none n w h = omega (arith, portion_above 0 (sum_to w (suc h)) (sum_to w n) 0 (omega arith))

@@ -3,20 +3,21 @@ use mathlib.Core.Path.{◌≡◌, refl}
 use mathlib.Core.Bool.{true, false}
 use mathlib.Core.List.{[], ◌∷◌}
 use lib.ListN.{replicate}
+use Rattle.numbers.specs.Rounding.{half_up}
 use Rattle.sharing.specs.Shares.{portion, taken, spread, shares_over, apart_at, shares_apart, shares, stretched, chosen_at, month_fits, weights_fit, share_in}
 
 -- over the first and the third of three hours: by their weights; by 1 each where these sum to 0; and over all where none is chosen
 pub selections :
     (shares_over 10 (chosen_at (true ∷ false ∷ true ∷ [])) (1 ∷ 7 ∷ 2 ∷ []) ≡ 3 ∷ 0 ∷ 7 ∷ [])
     × (shares_over 10 (chosen_at (true ∷ false ∷ true ∷ [])) (0 ∷ 7 ∷ 0 ∷ []) ≡ 5 ∷ 0 ∷ 5 ∷ [])
-    × (shares_over 10 (chosen_at (false ∷ false ∷ false ∷ [])) (1 ∷ 7 ∷ 2 ∷ []) ≡ 3 ∷ 3 ∷ 4 ∷ [])
+    × (shares_over 10 (chosen_at (false ∷ false ∷ false ∷ [])) (1 ∷ 7 ∷ 2 ∷ []) ≡ 3 ∷ 4 ∷ 3 ∷ [])
     × (shares 10 (7 ∷ []) ≡ 10 ∷ [])
-unfolding shares_over spread taken portion
+unfolding shares_over spread taken portion half_up
 selections = (refl, refl, refl, refl)
 
 -- 5 over the first and the third hour, 4 over the second
-pub apart : shares_apart 5 4 (chosen_at (true ∷ false ∷ true ∷ [])) 3 ≡ 2 ∷ 4 ∷ 3 ∷ []
-unfolding shares_apart apart_at taken portion
+pub apart : shares_apart 5 4 (chosen_at (true ∷ false ∷ true ∷ [])) 3 ≡ 3 ∷ 4 ∷ 2 ∷ []
+unfolding shares_apart apart_at taken portion half_up
 apart = refl
 
 -- a past of 170 hours for a month of 172: hours 170 and 171 are its hours 2 and 3; a longer past is cut
@@ -41,10 +42,11 @@ limits = (refl, refl, refl, refl, refl, refl, refl, refl)
 
 -- one place of a list, a place outside it, and a number that does not fit
 pub places :
-    (share_in 10 (1 ∷ 1 ∷ 1 ∷ []) 2 ≡ 4)
+    (share_in 10 (1 ∷ 1 ∷ 1 ∷ []) 1 ≡ 4)
+    × (share_in 10 (1 ∷ 1 ∷ 1 ∷ []) 2 ≡ 3)
     × (share_in 10 (1 ∷ 1 ∷ 1 ∷ []) 3 ≡ 0)
-    × (share_in 5 (0 ∷ 0 ∷ []) 1 ≡ 3)
+    × (share_in 5 (0 ∷ 0 ∷ []) 1 ≡ 2)
     × (share_in 744000001 (1 ∷ []) 0 ≡ 0)
     × (share_in 10 [] 0 ≡ 0)
-unfolding share_in month_fits weights_fit shares_over spread taken portion
-places = (refl, refl, refl, refl, refl)
+unfolding share_in month_fits weights_fit shares_over spread taken portion half_up
+places = (refl, refl, refl, refl, refl, refl)

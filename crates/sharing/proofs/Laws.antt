@@ -1,34 +1,52 @@
 -- What holds of a sharing by weights with a sum above 0, for any number of hours. Assumes nothing.
-use mathlib.Core.Path.{◌≡◌, sym, ap, ap₂, ◌∙◌}
-use Prim.Native.Nat.{ℕ, zero, suc, ◌+◌, ◌-◌, ◌*◌, ◌/◌, ◌≤◌, ◌<◌}
-use native.Mathlib.Nat.{mul-zero, zero-div, mul-div_cancel, mul-le-mul_left, mul-add, mul_comm, le-add_right, le_trans, le_step, le_refl}
-use native.Mathlib.Nat.{le-div_iff_mul-le, div-mul-le_self, div-le_of_le-mul, lt-div-mul-add, add-mul, sub-add_cancel}
+use mathlib.Core.Path.{◌≡◌, ap₂, ◌∙◌}
+use Prim.Native.Nat.{ℕ, zero, suc, ◌+◌, ◌-◌, ◌*◌, ◌≤◌, ◌<◌}
+use native.Mathlib.Nat.{mul-le-mul_left, mul-le-mul_right, mul_comm, le_antisymm, le_trans, le_step, le_refl, add-mul, sub-add_cancel}
 use native.Mathlib.Omega.{arith}
 use native.Mathlib.Decide.{dec_lt}
 use lib.ListN.{length}
 use Rattle.numbers.specs.Lists.{sum_to, sum, at}
 use Rattle.numbers.proofs.Laws.{sum_tab, sum_up, sum_same, tab_same, length_tab, at_tab}
+use Rattle.numbers.proofs.Rounds.{Nearest, half_up_nearest, half_up_most}
 use Rattle.sharing.specs.Shares.{portion, up_to, share, spread}
 
-div_up : (x y s : ℕ) → 0 < s → x ≤ y → x / s ≤ y / s
-div_up x y s p l = (le-div_iff_mul-le p).1 (le_trans (div-mul-le_self x s) l)
-
 -- THE QUOTIENT: what the rest needs to know of its rounding
-pub portion_none : (v s : ℕ) → portion v 0 s ≡ 0
+-- it is the whole number nearest to v × a / s, and of two the greater
+pub portion_nearest : (v a s : ℕ) → 0 < s → Nearest (v * a) s (portion v a s)
 unfolding portion
-portion_none v s = simp (mul-zero, zero-div)
+portion_nearest v a s p = half_up_nearest (v * a) s p
+
+-- a bound above, and one below
+pub portion_above : (v a s k : ℕ) → v * a ≤ k * s → portion v a s ≤ k
+unfolding portion
+portion_above v a s k l = half_up_most (v * a) s k l
+
+pub portion_below : (v a s k : ℕ) → 0 < s → 2 * (k * s) ≤ 2 * (v * a) + s → k ≤ portion v a s
+portion_below v a s k p l =
+    elim (dec_lt (portion v a s) k) [
+      | yes g ↦ absurd (omega (arith, (portion_nearest v a s p).high, mul-le-mul_right s g, add-mul (portion v a s) 1 s))
+      | no f ↦ omega arith
+    ]
+
+-- law: no other number is the nearest, so a half counts as one more and nothing else does
+pub portion_only : (v a s q : ℕ) → 0 < s → Nearest (v * a) s q → q ≡ portion v a s
+portion_only v a s q p n = le_antisymm (portion_below v a s q p n.low) (reached (dec_lt q (portion v a s)))
+  where
+    reached : Dec (q < portion v a s) → portion v a s ≤ q
+    reached (yes g) = absurd (omega (arith, n.high, (portion_nearest v a s p).low, mul-le-mul_right s g, add-mul q 1 s))
+    reached (no f) = omega arith
+
+pub portion_none : (v s : ℕ) → portion v 0 s ≡ 0
+portion_none v s = omega (arith, portion_above v 0 s 0 (omega arith))
 
 pub portion_all : (v s : ℕ) → 0 < s → portion v s s ≡ v
-unfolding portion
-portion_all v s p = mul-div_cancel v p
+portion_all v s p = le_antisymm (portion_above v s s v (omega arith)) (portion_below v s s v p (omega arith))
 
 pub portion_up : (v a x s : ℕ) → 0 < s → portion v a s ≤ portion v (a + x) s
-unfolding portion
-portion_up v a x s p = div_up _ _ s p (mul-le-mul_left v (le-add_right a x))
+portion_up v a x s p = portion_below v (a + x) s _ p (omega (arith, (portion_nearest v a s p).low))
 
 pub portion_most : (v a s : ℕ) → a ≤ s → portion v a s ≤ v
-unfolding portion
-portion_most v a s l = div-le_of_le-mul s (rw (mul_comm s) (mul-le-mul_left v l))
+portion_most v a s l = portion_above v a s v (mul-le-mul_left v l)
 
 -- r is less than one from v × x / s
 pub record Near (r v x s : ℕ) : Type 0 where
@@ -36,16 +54,11 @@ pub record Near (r v x s : ℕ) : Type 0 where
   pub above : v * x < r * s + s
 
 pub portion_near : (v a x s : ℕ) → 0 < s → Near (portion v (a + x) s - portion v a s) v x s
-unfolding portion
 portion_near v a x s p =
-    let d = v * (a + x) / s - v * a / s in
-    let up = div_up (v * a) (v * (a + x)) s p (mul-le-mul_left v (le-add_right a x)) in
-    let e : d * s + v * a / s * s ≡ v * (a + x) / s * s = sym (add-mul d (v * a / s) s) ∙ ap (λ (k : ℕ). k * s) (sub-add_cancel up) in
-    let m = mul-add v a x in
-    let l = div-mul-le_self (v * a) s in
-    let r = lt-div-mul-add {a = v * a} p in
-    let f = div-mul-le_self (v * (a + x)) s in
-    let g = lt-div-mul-add {a = v * (a + x)} p in
+    let d = portion v (a + x) s - portion v a s in
+    let e : d + portion v a s ≡ portion v (a + x) s = sub-add_cancel (portion_up v a x s p) in
+    let f = portion_nearest v a s p in
+    let g : Nearest (v * (a + x)) s (d + portion v a s) = rw e (portion_nearest v (a + x) s p) in
     record { below = omega arith; above = omega arith }
 
 -- THE SHARING of v over n hours by the weights w
@@ -57,9 +70,15 @@ module _ (v n : ℕ) (w : ℕ → ℕ) (some : 0 < sum_to w n) where
   pub up_to_up : (h : ℕ) → up_to v n w h ≤ up_to v n w (suc h)
   up_to_up h = portion_up v (sum_to w h) (w h) (sum_to w n) some
 
+  -- the hours before h have the quotient at them, which is the whole number nearest to what is theirs
+  pub sum_before : (h : ℕ) → sum_to (share v n w) h ≡ up_to v n w h
+  sum_before h = omega (arith, telescope (up_to v n w) up_to_up h, portion_none v (sum_to w n))
+
+  pub nearest_before : (h : ℕ) → Nearest (v * sum_to w h) (sum_to w n) (sum_to (share v n w) h)
+  nearest_before h = rw (sum_before h) (portion_nearest v (sum_to w h) (sum_to w n) some)
+
   pub sum_share : sum_to (share v n w) n ≡ v
-  sum_share =
-      omega (arith, telescope (up_to v n w) up_to_up n, portion_none v (sum_to w n), portion_all v (sum_to w n) some)
+  sum_share = sum_before n ∙ portion_all v (sum_to w n) some
 
   pub sum_spread : sum (spread v n w) ≡ v
   unfolding spread

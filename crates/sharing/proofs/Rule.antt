@@ -2,8 +2,8 @@
 use mathlib.Core.Path.{◌≡◌, refl, sym, ap₂, ◌∙◌}
 use mathlib.Core.List.{List}
 use mathlib.Core.Bool.{Bool, true, false, cond, not, ◌&&◌, false≢true}
-use Prim.Native.Nat.{ℕ, zero, suc, ◌+◌, ◌-◌, ◌≤◌, ◌<◌}
-use native.Mathlib.Nat.{pos_of_ne-zero}
+use Prim.Native.Nat.{ℕ, zero, suc, ◌+◌, ◌-◌, ◌*◌, ◌≤◌, ◌<◌}
+use native.Mathlib.Nat.{pos_of_ne-zero, mul-zero, le_trans}
 use native.Mathlib.Omega.{arith}
 use native.Mathlib.Decide.{dec_lt}
 use borrow.Author.Tests.{eq-eqb, ne_eqb, eqb-true, eqb-false, leb-true, lt-leb, lt-ltb, le-ltb}
@@ -11,11 +11,13 @@ use lib.Dec.{eqb, leb}
 use lib.ListN.{length, get_or-eq_default}
 use Rattle.numbers.specs.Lists.{tab, sum_to, sum, at}
 use Rattle.numbers.proofs.Laws.{sum_tab, sum_same, sum_ones, sum_both, tab_same, length_tab, at_tab, by_cases, both, and_false, cond_most}
+use Rattle.numbers.proofs.Rounds.{Nearest}
 use Rattle.units.specs.Volumes.{greatest_volume_read}
 use Rattle.sharing.specs.Shares.{one, others, within, or_weights, taken, share, spread, shares_over, apart_at, shares_apart, shares, every}
 use Rattle.sharing.specs.Shares.{past_at, month_fits, weights_fit, share_in}
 use Rattle.sharing.specs.Limits.{MonthFits}
-use Rattle.sharing.proofs.Laws.{Near, sum_spread, sum_share, near_share, share_whole, length_spread, at_spread, share_same, spread_same}
+use Rattle.sharing.proofs.Laws.{Near, sum_spread, sum_share, near_share, nearest_before, share_most, share_whole}
+use Rattle.sharing.proofs.Laws.{length_spread, at_spread, share_same, spread_same}
 
 -- of two kinds of weights, the sum is that of the kind that counts
 or_sum : (n : ℕ) (w u : ℕ → ℕ) → sum_to (or_weights n w u) n ≡ cond (eqb (sum_to w n) 0) (sum_to u n) (sum_to w n)
@@ -65,6 +67,25 @@ module _ (v : ℕ) (chosen : ℕ → Bool) (ws : List ℕ) where
     near_shares h l =
         rw (at_spread v (length ws) (taken (length ws) chosen (at ws)) h l)
         (near_share v (length ws) (taken (length ws) chosen (at ws)) (taken_some (length ws) chosen (at ws) some) h)
+
+    -- law: one of weight 0 gets nothing
+    pub shares_nothing : (h : ℕ) → h < length ws → taken (length ws) chosen (at ws) h ≡ 0 → at (shares_over v chosen ws) h ≡ 0
+    unfolding shares_over
+    shares_nothing h l e =
+        let w : ℕ → ℕ = taken (length ws) chosen (at ws) in
+        at_spread v (length ws) w h l
+        ∙ omega (arith, share_most v (length ws) w (taken_some (length ws) chosen (at ws) some) h 0 (rw (e, mul-zero) (omega arith)))
+
+    -- law (E2): those before any hour sum to the whole number nearest to what is theirs, so no odd kWh waits for the last of them
+    pub nearest_before_shares : (h : ℕ) → h ≤ length ws
+        → Nearest (v * sum_to (taken (length ws) chosen (at ws)) h) (sum_to (taken (length ws) chosen (at ws)) (length ws))
+        (sum_to (at (shares_over v chosen ws)) h)
+    unfolding shares_over
+    nearest_before_shares h l =
+        let n = length ws in
+        let w : ℕ → ℕ = taken n chosen (at ws) in
+        rw (sum_same h (at (spread v n w)) (share v n w) (λ k m. at_spread v n w k (le_trans m l)))
+        (nearest_before v n w (taken_some n chosen (at ws) some) h)
 
 -- law: outside the list there is no share
 pub shares_outside : (v : ℕ) (ws : List ℕ) (place : ℕ) → length ws ≤ place → at (shares v ws) place ≡ 0

@@ -1,11 +1,12 @@
 -- Sharing a volume (document 01): how a volume V is shared over hours by weights w. Weights are a function of the hour, which counts from 0.
-use Rattle.std.specs.Prelude.{ℕ, suc, ◌+◌, ◌-◌, ◌*◌, ◌/◌, ◌≡◌, List, Bool, true, false, cond, not, ◌&&◌, length, get_or, eqb, ltb, leb}
+use Rattle.std.specs.Prelude.{ℕ, suc, ◌+◌, ◌-◌, ◌*◌, ◌≡◌, List, Bool, true, false, cond, not, ◌&&◌, length, get_or, eqb, ltb, leb}
 use Rattle.numbers.specs.Lists.{tab, sum_to, at, padded}
+use Rattle.numbers.specs.Rounding.{half_up}
 use Rattle.units.specs.Volumes.{greatest_volume_read, greatest_month_volume}
 
--- THE QUOTIENT and its rounding: what of v falls to weights of a out of s, in whole kWh
+-- THE QUOTIENT and its rounding half up (E2): what of v falls to weights of a out of s, in whole kWh
 unfoldable pub portion : ℕ → ℕ → ℕ → ℕ
-portion v a s = v * a / s
+portion v a s = half_up (v * a) s
 
 -- weight 1 in every hour
 abbrev pub one : ℕ → ℕ

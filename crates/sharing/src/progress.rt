@@ -4,6 +4,8 @@ ghost use Rattle.units.specs.Volumes.{greatest_volume_read};
 ghost use Rattle.sharing.specs.Shares.{portion};
 ghost use Rattle.sharing.specs.Limits.{QuotientFits};
 
+use numbers::half_up;
+
 // A sharing under way: the volume V, the sum S of all weights, and of both what the hours so far have.
 #[derive(Clone, Copy)]
 pub(crate) struct Progress {
@@ -21,7 +23,7 @@ pub(crate) fn portion_of(v: u64, a: u64, s: u64) -> u64
     requires { QuotientFits v a s }
     ensures { result ≡ portion v a s }
 {
-    v * a / s
+    half_up(v * a, s)
 }
 
 impl Progress {

@@ -154,8 +154,9 @@ fn year_of_an_interval_meter() {
 #[test]
 fn months_of_an_integral_meter() {
     let mut p = Point::open(CABLE, 2024, 4);
-    // April: no reading, no past. The formula at 720 gives 29,808, 41.4 an hour: 41, 41, 42, 41, 42 and so on.
-    let hours: Vec<u32> = [41, 41, 42, 41, 42].repeat(144);
+    // April: no reading, no past. The formula at 720 gives 29,808, 41.4 an hour: 41.4, 82.8, 124.2, 165.6, 207 are
+    // rounded 41, 83, 124, 166, 207, so 41, 42, 41, 42, 41 and so on.
+    let hours: Vec<u32> = [41, 42, 41, 42, 41].repeat(144);
     let days: Vec<[u32; 24]> = hours.chunks_exact(24).map(|day| day.try_into().unwrap()).collect();
     let month = Month { ground: 9, volume: 29_808, sum: 0, days: 0, capacity: 0 };
     p.closes(&p.all_days([mark::ORDINARY; 24]), month, &days, 1, 29_808);
@@ -176,7 +177,8 @@ fn months_of_an_integral_meter() {
     p.closes_on_working_days(month, &[day(41, 41, 20); 31], 1, 63_882);
 }
 
-/// 10 kW by 1, 1, 1 are 3, 3 and 4 kW; by 3, 1 they are 7.5 and 2.5, so 7 and 3.
+/// 10 kW by 1, 1, 1: the running sums 3.33, 6.67 and 10 are rounded half up 3, 7 and 10, so 3, 4 and 3 kW; by 3, 1 the
+/// sums 7.5 and 10 are 8 and 10, so 8 and 2.
 #[test]
 fn shared_power_goes_by_the_place() {
     let contract = Contract { basis: basis::SHARED, ..AGREED };
@@ -186,9 +188,21 @@ fn shared_power_goes_by_the_place() {
         let closing = record.close(&mut store, &[0; 744], &mut [0; ROW])?;
         Ok(closing.volume.0 / 744)
     };
-    assert_eq!([0, 1, 2].map(|place| power(&[1, 1, 1], place)), [Ok(3), Ok(3), Ok(4)]);
-    assert_eq!([0, 1].map(|place| power(&[3, 1], place)), [Ok(7), Ok(3)]);
+    assert_eq!([0, 1, 2].map(|place| power(&[1, 1, 1], place)), [Ok(3), Ok(4), Ok(3)]);
+    assert_eq!([0, 1].map(|place| power(&[3, 1], place)), [Ok(8), Ok(2)]);
     assert_eq!(power(&[1, 1, 1], 3), Err(Refusal::Currents));
+}
+
+/// Half a kWh an hour, by the peak rule without peaks: the running sums 0.5, 1, 1.5, 2 .. are rounded half up 1, 1, 2,
+/// 2 .., so each half goes to the earlier hour. The capacity hour is the month's first: C = 1, d = 1.
+#[test]
+fn half_goes_to_the_earlier_hour() {
+    let mut p = Point::open(AGREED, 2023, 1);
+    p.record.read_control_volume(&p.store, Kwh(372)).unwrap();
+    let mut marks = p.all_days([mark::ORDINARY; 24]);
+    marks[0] = mark::CAPACITY;
+    let by_turns: [u32; 24] = std::array::from_fn(|hour| (hour as u32 + 1) % 2);
+    p.closes(&marks, Month { ground: 5, volume: 372, sum: 1, days: 1, capacity: 1 }, &[by_turns; 31], 1, 372);
 }
 
 /// The last month of the calendar closes, and no call after it but an opening.
