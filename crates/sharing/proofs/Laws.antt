@@ -1,7 +1,8 @@
 -- What holds of a sharing by weights with a sum above 0, for any number of hours. Assumes nothing.
 use mathlib.Core.Path.{◌≡◌, ap₂, ◌∙◌}
-use Prim.Native.Nat.{ℕ, zero, suc, ◌+◌, ◌-◌, ◌*◌, ◌≤◌, ◌<◌}
+use Prim.Native.Nat.{ℕ, zero, suc, ◌+◌, ◌-◌, ◌*◌, ◌/◌, ◌≤◌, ◌<◌}
 use native.Mathlib.Nat.{mul-le-mul_left, mul-le-mul_right, mul_comm, le_antisymm, le_trans, le_step, le_refl, add-mul, sub-add_cancel}
+use native.Mathlib.Nat.{div-mul-le_self, le-div_iff_mul-le}
 use native.Mathlib.Omega.{arith}
 use native.Mathlib.Decide.{dec_lt}
 use lib.ListN.{length}
@@ -35,6 +36,19 @@ portion_only v a s q p n = le_antisymm (portion_below v a s q p n.low) (reached 
     reached : Dec (q < portion v a s) → portion v a s ≤ q
     reached (yes g) = absurd (omega (arith, n.high, (portion_nearest v a s p).low, mul-le-mul_right s g, add-mul q 1 s))
     reached (no f) = omega arith
+
+-- law: it is one quotient, rounded down, of twice as much and a half, as the code has it
+pub portion_twice : (v a s : ℕ) → 0 < s → (2 * v * a + s) / (2 * s) ≡ portion v a s
+portion_twice v a s p =
+    le_antisymm
+    (portion_below v a s _ p (omega (arith, div-mul-le_self (2 * v * a + s) (2 * s))))
+    ((le-div_iff_mul-le {k = 2 * s} (omega arith)).1 (omega (arith, (portion_nearest v a s p).low)))
+
+-- an hour on, by the dividend that is carried
+pub portion_on : (v a w s : ℕ) {x : ℕ} → 0 < s → x ≡ 2 * v * a + s → (x + 2 * v * w) / (2 * s) ≡ portion v (a + w) s
+portion_on v a w s {x} p e =
+    let f : x + 2 * v * w ≡ 2 * v * (a + w) + s = omega (arith, e) in
+    rw f (portion_twice v (a + w) s p)
 
 pub portion_none : (v s : ℕ) → portion v 0 s ≡ 0
 portion_none v s = omega (arith, portion_above v 0 s 0 (omega arith))

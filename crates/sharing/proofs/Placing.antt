@@ -3,6 +3,7 @@ use mathlib.Core.Path.{◌≡◌, ◌∙◌}
 use mathlib.Core.Bool.{cond}
 use mathlib.Core.List.{List}
 use Prim.Native.Nat.{ℕ, ◌+◌, ◌-◌, ◌≤◌}
+use native.Mathlib.Nat.{le-add_right}
 use native.Mathlib.Numerals.{add-one}
 use native.Mathlib.Omega.{arith}
 use lib.Dec.{eqb}
@@ -11,7 +12,8 @@ use Rattle.numbers.specs.Lists.{sum_to, at}
 use Rattle.numbers.proofs.Laws.{cond_most, sum_up}
 use Rattle.sharing.specs.Shares.{portion, taken, shares_over, shares, every}
 use Rattle.sharing.specs.Limits.{QuotientFits, Placed}
-use Rattle.sharing.proofs.Laws.{portion_up, at_spread}
+use Rattle.sharing.specs.declared.progress.Progress.{Progress}
+use Rattle.sharing.proofs.Laws.{at_spread}
 use Rattle.sharing.proofs.Rule.{taken_every, taken_some}
 
 -- a is the sum of the first h weights as they are taken
@@ -36,12 +38,20 @@ module _ {v s : ℕ} {ws : List ℕ} {place : ℕ} (p : Placed v s ws place) whe
   }
 
   module _ {before after whole : ℕ} (f : First s ws place before) (g : First s ws (place + 1) after) (i : First s ws (length ws) whole) where
-    pub place_up : portion v before whole ≤ portion v after whole
-    unfolding weight
-    place_up =
-        rw (first_is f, first_is g, add-one)
-        (portion_up v (sum_to weight place) (weight place) whole (first_fits f i (omega (arith, p.inside))).some)
+    pub parts_fit : (before ≤ whole) × (after ≤ whole)
+    parts_fit = ((first_fits f i (omega (arith, p.inside))).part, (first_fits g i (omega (arith, p.inside))).part)
 
-    pub place_is : portion v after whole - portion v before whole ≡ at (shares v ws) place
+    first_up : before ≤ after
+    unfolding weight
+    first_up = rw (first_is f, first_is g, add-one) (le-add_right (sum_to weight place) (weight place))
+
+    place_is : portion v after whole - portion v before whole ≡ at (shares v ws) place
     unfolding weight shares_over
     place_is = rw (at_spread v (length ws) (taken (length ws) every (at ws)) place p.inside, first_is f, first_is g, first_is i, add-one)
+
+    -- what the next hour of a sharing gets that stands before the place
+    pub place_gets : (q : Progress) {r : ℕ} → q.volume ≡ v → q.whole ≡ whole → q.passed ≡ before
+        → r ≡ portion q.volume (q.passed + (after - before)) q.whole - portion q.volume q.passed q.whole → r ≡ at (shares v ws) place
+    place_gets q d e k gets =
+        let sum : before + (after - before) ≡ after = omega (arith, first_up) in
+        gets ∙ rw (d, e, k, sum) place_is

@@ -1,8 +1,8 @@
 -- A sharing under way: the laws that answer what a turn of a loop asks. Assumes nothing.
 use mathlib.Core.Path.{◌≡◌, refl, sym, ap₂, ◌∙◌}
 use mathlib.Core.Bool.{Bool, true, false, cond}
-use Prim.Native.Nat.{ℕ, ◌+◌, ◌-◌, ◌≤◌, ◌<◌}
-use native.Mathlib.Nat.{le_trans}
+use Prim.Native.Nat.{ℕ, ◌+◌, ◌-◌, ◌*◌, ◌≤◌, ◌<◌}
+use native.Mathlib.Nat.{le_trans, mul-le-mul_left, mul-le-mul_right}
 use native.Mathlib.Numerals.{add-one}
 use mathlib.Core.List.{List, []}
 use lib.ListN.{length, set}
@@ -16,6 +16,11 @@ use Rattle.sharing.specs.Limits.{QuotientFits}
 use Rattle.sharing.specs.declared.progress.Progress.{Progress}
 use Rattle.sharing.proofs.Rule.{taken_sum, taken_some, taken_is, even_is, shares_tab, all_hours, past_short}
 use Rattle.sharing.proofs.Laws.{spread_same}
+
+-- the dividend of the next quotient fits 64 bits
+pub next_fits : {v a s x : ℕ} (w : ℕ) → QuotientFits v a s → a + w ≤ s → x ≡ 2 * v * a + s → x + 2 * v * w ≤ 18446744073709551615
+next_fits {v} {s = s} w q l e =
+    omega (arith, e, q.volume, q.weights, mul-le-mul_left v l, mul-le-mul_right s q.volume)
 
 -- what a sharing by weights as they are taken starts with, over 1 to 744 hours
 pub start_fits : {v n s k whole : ℕ} (chosen : ℕ → Bool) (w : ℕ → ℕ)

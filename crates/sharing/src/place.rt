@@ -4,7 +4,7 @@ ghost use Rattle.numbers.specs.Lists.{sum_to, at};
 ghost use Rattle.sharing.specs.Shares.{shares};
 ghost use Rattle.sharing.specs.Limits.{Placed};
 
-use super::progress::portion_of;
+use super::progress::Progress;
 use numbers::sum_first;
 
 // The sum of the first n weights as they are taken over all places, where all of them sum to s.
@@ -19,13 +19,15 @@ fn taken_first(s: u64, weights: &[u32], n: usize) -> u64
     }
 }
 
-// The share of one place where the numbers fit.
+// The share of one place where the numbers fit: of a sharing whose first hour has the weights before it, that of the next one.
 pub(crate) fn at_place(v: u64, s: u64, weights: &[u32], place: usize) -> u64
     requires { Placed v s weights.now place }
     ensures { result ≡ at (shares v weights.now) place }
 {
     let whole = taken_first(s, weights, weights.len());
     let before = taken_first(s, weights, place);
-    let after = taken_first(s, weights, place + 1);
-    portion_of(v, after, whole) - portion_of(v, before, whole)
+    let own = taken_first(s, weights, place + 1) - before;
+    let mut sharing = Progress::start(v, whole);
+    sharing.share(before);
+    u64::from(sharing.share(own))
 }

@@ -1,29 +1,21 @@
 // A sharing under way, from hour to hour.
-ghost use Rattle.std.specs.Prelude.{◌≡◌, ◌+◌, ◌-◌, ◌≤◌};
+ghost use Rattle.std.specs.Prelude.{◌≡◌, ◌+◌, ◌-◌, ◌*◌, ◌≤◌};
 ghost use Rattle.units.specs.Volumes.{greatest_volume_read};
 ghost use Rattle.sharing.specs.Shares.{portion};
 ghost use Rattle.sharing.specs.Limits.{QuotientFits};
 
-use numbers::half_up;
-
-// A sharing under way: the volume V, the sum S of all weights, and of both what the hours so far have.
+// A sharing under way: the volume V, the sum S of all weights, and of both what the hours so far have. The quotient rounded half up is
+// one of twice as much and a half, and its dividend is carried: an hour has one product, one sum and one division, as with a floor.
 #[derive(Clone, Copy)]
 pub(crate) struct Progress {
     pub volume: u64,
     pub whole: u64,
     pub passed: u64,
+    pub dividend: u64,
     pub done: u64,
     pub ghost fits: { QuotientFits volume passed whole },
+    pub ghost carried: { dividend ≡ 2 * volume * passed + whole },
     pub ghost is: { done ≡ portion volume passed whole },
-}
-
-// The quotient of the rule: what of v falls to weights of a out of s.
-#[tactic(auto, unfolding(crate::specs::Shares::portion))]
-pub(crate) fn portion_of(v: u64, a: u64, s: u64) -> u64
-    requires { QuotientFits v a s }
-    ensures { result ≡ portion v a s }
-{
-    half_up(v * a, s)
 }
 
 impl Progress {
@@ -39,13 +31,14 @@ impl Progress {
             volume,
             whole,
             passed: 0,
+            dividend: whole,
             done: 0,
         }
     }
 
     // One hour on, of weight w: what the hour gets. An hour of weight 0 needs no division. What it gets fits, as the contract shows;
     // `try_from` would bring a case that there is not.
-    #[tactic(auto, using(crate::proofs::Laws::portion_up, crate::proofs::Laws::portion_most))]
+    #[tactic(auto, using(crate::proofs::Turns::next_fits, crate::proofs::Laws::portion_on, crate::proofs::Laws::portion_up, crate::proofs::Laws::portion_most))]
     pub(crate) fn share(&mut self, w: u64) -> u32
         requires { self.old.passed + w ≤ self.old.whole }
         ensures volume { self.new.volume ≡ self.old.volume }
@@ -58,7 +51,8 @@ impl Progress {
         let before = self.done;
         if w != 0 {
             self.passed += w;
-            self.done = portion_of(self.volume, self.passed, self.whole);
+            self.dividend += 2 * self.volume * w;
+            self.done = self.dividend / (2 * self.whole);
         }
         (self.done - before) as u32
     }

@@ -1,24 +1,24 @@
 -- The share of the place lies between the sums of the weights before and after it.
-use Rattle.std.proofs.Common.{arith}
-use Rattle.sharing.proofs.Placing.{first_fits, place_up, place_is}
+use Rattle.std.proofs.Common.{arith, ◌∙◌}
+use Rattle.sharing.proofs.Placing.{parts_fit, place_gets}
 use Rattle.sharing.proofs.place.at_place.Goals as goal
 
-pub portion_of-requires : goal.portion_of-requires
-portion_of-requires c =
-    first_fits c.requires (record { is = c.taken_first-after.ensures }) (record { is = c.taken_first-whole.ensures }) (omega arith)
+pub share-requires : goal.share-requires
+share-requires c =
+    let fit = parts_fit c.requires (record { is = c.taken_first-before.ensures }) (record { is = c.taken_first.ensures })
+    (record { is = c.taken_first-whole.ensures }) in
+    omega (arith, fit.0, c.start-sharing.ensures.passed, c.start-sharing.ensures.whole)
 
-pub portion_of-requires-2 : goal.portion_of-requires-2
-portion_of-requires-2 c =
-    first_fits c.requires (record { is = c.taken_first-before.ensures }) (record { is = c.taken_first-whole.ensures }) (omega arith)
-
-pub overflow_sub-result : goal.overflow_sub-result
-overflow_sub-result c =
-    rw (c.portion_of-2.ensures, c.portion_of.ensures)
-    (place_up c.requires (record { is = c.taken_first-before.ensures })
-    (record { is = c.taken_first-after.ensures }) (record { is = c.taken_first-whole.ensures }))
+pub share-requires-2 : goal.share-requires-2
+share-requires-2 c =
+    let fit = parts_fit c.requires (record { is = c.taken_first-before.ensures }) (record { is = c.taken_first.ensures })
+    (record { is = c.taken_first-whole.ensures }) in
+    omega (arith, fit.0, fit.1, c.start-sharing.ensures.passed, c.start-sharing.ensures.whole, c.share.ensures.passed, c.share.ensures.whole)
 
 pub returns : goal.returns
 returns c =
-    rw (c.portion_of-2.ensures, c.portion_of.ensures)
-    (place_is c.requires (record { is = c.taken_first-before.ensures })
-    (record { is = c.taken_first-after.ensures }) (record { is = c.taken_first-whole.ensures }))
+    place_gets c.requires (record { is = c.taken_first-before.ensures }) (record { is = c.taken_first.ensures })
+    (record { is = c.taken_first-whole.ensures })
+    c.share.new.self
+    (c.share.ensures.volume ∙ c.start-sharing.ensures.volume) (c.share.ensures.whole ∙ c.start-sharing.ensures.whole)
+    (omega (arith, c.share.ensures.passed, c.start-sharing.ensures.passed)) (c.from.ensures ∙ c.share-2.ensures.gets)
