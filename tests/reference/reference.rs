@@ -1,5 +1,5 @@
-// Reference program for document 01, "Estimated consumption at a delivery point", with the requests
-// of document 02 that have landed: E2, "The odd kWh drifts to the month's end".
+// Reference program for document 01, "Estimated consumption at a delivery point", and
+// request E2 of document 02, "The odd kWh drifts to the month's end".
 //
 // Two accounts of the specification stand here side by side:
 //   point  a record and a store of 10,416 words, changed call by call;
@@ -1760,7 +1760,7 @@ mod tests {
         assert!(halves > 1_000, "{halves}");
     }
 
-    /// "Records opened earlier keep their P" (reading 25): P is worked out at the opening alone, and
+    /// A record opened earlier keeps its P (reading 25): P is worked out at the opening alone, and
     /// a record with another P is sound and settles by that.
     #[test]
     fn a_record_keeps_its_power() {

@@ -1,5 +1,5 @@
-// What `settle --tab` has to print, read from docs/HISTORY-FILE.md, document 01 and the landed requests of document 02
-// (E2) alone. The point itself is the reference's; tokens, grammar, weekdays and the figures of a sheet are worked out
+// What `settle --tab` has to print, read from docs/HISTORY-FILE.md, document 01 and request E2 of document 02
+// alone. The point itself is the reference's; tokens, grammar, weekdays and the figures of a sheet are worked out
 // here.
 
 #[allow(dead_code)]

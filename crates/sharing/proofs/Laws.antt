@@ -29,7 +29,7 @@ portion_below v a s k p l =
       | no f ↦ omega arith
     ]
 
--- law: no other number is the nearest, so a half counts as one more and nothing else does
+-- law: no other number is, so a rest of a half or more counts as one more, and a smaller one as nothing
 pub portion_only : (v a s q : ℕ) → 0 < s → Nearest (v * a) s q → q ≡ portion v a s
 portion_only v a s q p n = le_antisymm (portion_below v a s q p n.low) (reached (dec_lt q (portion v a s)))
   where
@@ -37,7 +37,7 @@ portion_only v a s q p n = le_antisymm (portion_below v a s q p n.low) (reached 
     reached (yes g) = absurd (omega (arith, n.high, (portion_nearest v a s p).low, mul-le-mul_right s g, add-mul q 1 s))
     reached (no f) = omega arith
 
--- law: it is one quotient, rounded down, of twice as much and a half, as the code has it
+-- law: it is one division, rounded down, of twice the product and S by twice S, as the code has it
 pub portion_twice : (v a s : ℕ) → 0 < s → (2 * v * a + s) / (2 * s) ≡ portion v a s
 portion_twice v a s p =
     le_antisymm
@@ -84,7 +84,7 @@ module _ (v n : ℕ) (w : ℕ → ℕ) (some : 0 < sum_to w n) where
   pub up_to_up : (h : ℕ) → up_to v n w h ≤ up_to v n w (suc h)
   up_to_up h = portion_up v (sum_to w h) (w h) (sum_to w n) some
 
-  -- the hours before h have the quotient at them, which is the whole number nearest to what is theirs
+  -- the hours before h sum to the quotient of their weights, the whole number nearest to what is theirs
   pub sum_before : (h : ℕ) → sum_to (share v n w) h ≡ up_to v n w h
   sum_before h = omega (arith, telescope (up_to v n w) up_to_up h, portion_none v (sum_to w n))
 

@@ -49,7 +49,7 @@ module _ {v s : ℕ} {ws : List ℕ} {place : ℕ} (p : Placed v s ws place) whe
     unfolding weight shares_over
     place_is = rw (at_spread v (length ws) (taken (length ws) every (at ws)) place p.inside, first_is f, first_is g, first_is i, add-one)
 
-    -- what the next hour of a sharing gets that stands before the place
+    -- a sharing that has passed the weights before the place gives its next hour the share of the place
     pub place_gets : (q : Progress) {r : ℕ} → q.volume ≡ v → q.whole ≡ whole → q.passed ≡ before
         → r ≡ portion q.volume (q.passed + (after - before)) q.whole - portion q.volume q.passed q.whole → r ≡ at (shares v ws) place
     place_gets q d e k gets =

@@ -68,7 +68,7 @@ module _ (v : ℕ) (chosen : ℕ → Bool) (ws : List ℕ) where
         rw (at_spread v (length ws) (taken (length ws) chosen (at ws)) h l)
         (near_share v (length ws) (taken (length ws) chosen (at ws)) (taken_some (length ws) chosen (at ws) some) h)
 
-    -- law: one of weight 0 gets nothing
+    -- law: an hour of weight 0 gets 0
     pub shares_nothing : (h : ℕ) → h < length ws → taken (length ws) chosen (at ws) h ≡ 0 → at (shares_over v chosen ws) h ≡ 0
     unfolding shares_over
     shares_nothing h l e =
@@ -76,7 +76,7 @@ module _ (v : ℕ) (chosen : ℕ → Bool) (ws : List ℕ) where
         at_spread v (length ws) w h l
         ∙ omega (arith, share_most v (length ws) w (taken_some (length ws) chosen (at ws) some) h 0 (rw (e, mul-zero) (omega arith)))
 
-    -- law (E2): those before any hour sum to the whole number nearest to what is theirs, so no odd kWh waits for the last of them
+    -- law (E2): the shares before any hour sum to the whole number nearest to what is theirs, so no odd kWh waits for the last hour
     pub nearest_before_shares : (h : ℕ) → h ≤ length ws
         → Nearest (v * sum_to (taken (length ws) chosen (at ws)) h) (sum_to (taken (length ws) chosen (at ws)) (length ws))
         (sum_to (at (shares_over v chosen ws)) h)

@@ -82,7 +82,7 @@ other_at chosen = others (chosen_at chosen)
 unfoldable pub month_fits : ℕ → ℕ → ℕ → Bool
 month_fits v t room = leb v greatest_volume_read && leb 1 t && leb t 744 && leb t room
 
--- and weights that sum to at most 744 × 3,000,000, so that a volume times a sum of weights fits 64 bits
+-- and weights that sum to at most 744 × 3,000,000, so that twice a volume times a sum of weights, and that sum, fit 64 bits
 unfoldable pub weights_fit : ℕ → Bool
 weights_fit s = leb s greatest_month_volume
 

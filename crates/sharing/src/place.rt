@@ -19,7 +19,7 @@ fn taken_first(s: u64, weights: &[u32], n: usize) -> u64
     }
 }
 
-// The share of one place where the numbers fit: of a sharing whose first hour has the weights before it, that of the next one.
+// The share of one place where the numbers fit. All weights before the place go as one hour of a sharing; its next hour is the place.
 pub(crate) fn at_place(v: u64, s: u64, weights: &[u32], place: usize) -> u64
     requires { Placed v s weights.now place }
     ensures { result ≡ at (shares v weights.now) place }

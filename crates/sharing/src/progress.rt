@@ -4,8 +4,9 @@ ghost use Rattle.units.specs.Volumes.{greatest_volume_read};
 ghost use Rattle.sharing.specs.Shares.{portion};
 ghost use Rattle.sharing.specs.Limits.{QuotientFits};
 
-// A sharing under way: the volume V, the sum S of all weights, and of both what the hours so far have. The quotient rounded half up is
-// one of twice as much and a half, and its dividend is carried: an hour has one product, one sum and one division, as with a floor.
+// A sharing under way: the volume V, the sum S of all weights, and of both what the hours so far have. The quotient is rounded half up
+// by one division, of twice the product and S by twice S. That dividend is carried, since working it out in each hour takes longer
+// (decision 117). `passed` is there for what the contracts say; no answer is worked out from it.
 #[derive(Clone, Copy)]
 pub(crate) struct Progress {
     pub volume: u64,

@@ -1,4 +1,4 @@
--- The share of the place lies between the sums of the weights before and after it.
+-- The weights before the place and its own fit, and the hour that takes its own gets the share of the place.
 use Rattle.std.proofs.Common.{arith, ◌∙◌}
 use Rattle.sharing.proofs.Placing.{parts_fit, place_gets}
 use Rattle.sharing.proofs.place.at_place.Goals as goal
