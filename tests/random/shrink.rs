@@ -150,15 +150,20 @@ fn simpler_openings(opening: &Opening) -> Vec<Opening> {
     simpler
 }
 
+/// A volume made plain, and less by ever smaller parts of it, so that the least one is near after few steps.
+fn simpler_volumes(volume: u64) -> impl Iterator<Item = u64> {
+    let less = (1..64).map(move |half| volume - (volume >> half));
+    [0, 1].into_iter().chain(less).filter(move |v| *v < volume)
+}
+
 fn simpler_calls(call: &Call) -> Vec<Call> {
-    let volume = |volume: u64| [0, 1, volume / 2, volume.saturating_sub(1)].into_iter().filter(move |v| *v < volume);
     match call {
         Call::BillingHours(hours) => simpler_words(hours).into_iter().map(Call::BillingHours).collect(),
         Call::ControlHours(hours) => simpler_words(hours).into_iter().map(Call::ControlHours).collect(),
-        Call::BillingVolume(v) => volume(*v).map(Call::BillingVolume).collect(),
-        Call::ControlVolume(v) => volume(*v).map(Call::ControlVolume).collect(),
+        Call::BillingVolume(v) => simpler_volumes(*v).map(Call::BillingVolume).collect(),
+        Call::ControlVolume(v) => simpler_volumes(*v).map(Call::ControlVolume).collect(),
         Call::Neighbour { source, volume: v } => {
-            volume(*v).map(|less| Call::Neighbour { source: *source, volume: less }).collect()
+            simpler_volumes(*v).map(|less| Call::Neighbour { source: *source, volume: less }).collect()
         }
         Call::Close { marks } => simpler_marks(marks).into_iter().map(|marks| Call::Close { marks }).collect(),
         _ => Vec::new(),

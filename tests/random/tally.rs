@@ -1,7 +1,7 @@
 //! What a run has met: grounds, refusal numbers, lengths of past and month, and situations, each counted.
 
 use crate::case::{Act, Step};
-use crate::reference::calls::Call;
+use crate::reference::calls::{Call, Opening};
 use crate::reference::point::{Closed, Record, BILLING, CONTROL};
 use crate::reference::rules::{days_of, hours_of, neighbour_volume, peak_hours, year_and_month};
 use crate::sides::{Met, Sides, ROW};
@@ -10,7 +10,7 @@ use crate::sides::{Met, Sides, ROW};
 const NUMBERS: [usize; 24] =
     [1, 2, 3, 10, 11, 12, 13, 14, 20, 21, 22, 23, 24, 30, 31, 32, 33, 34, 40, 41, 42, 43, 44, 45];
 
-const SITUATIONS: [&str; 36] = [
+const SITUATIONS: [&str; 37] = [
     "opening in January to April 2014",
     "opening on basis 1",
     "opening on basis 2",
@@ -18,6 +18,7 @@ const SITUATIONS: [&str; 36] = [
     "opening on basis 2 that gives P = 0",
     "opening of a point that is open",
     "refused opening of a point that is open",
+    "half in the sharing of a power",
     "hours read, all 1,000,000",
     "volume of T × 1,000,000 read",
     "reading discarded by a failure",
@@ -135,19 +136,19 @@ fn past_used(closed: &Closed, before: &Record) -> Option<((u32, u32), bool)> {
 fn situations(step: &Step, met: &Met, sides: &Sides) -> [bool; SITUATIONS.len()] {
     let mut flags = [false; SITUATIONS.len()];
     match &step.act {
-        Act::Open(_) => flags[..7].copy_from_slice(&of_opening(met, sides)),
+        Act::Open(opening) => flags[..8].copy_from_slice(&of_opening(opening, met, sides)),
         Act::Call(Call::Close { marks }) => {
             if let Some(closed) = &met.closed {
-                flags[13..].copy_from_slice(&of_closing(marks, closed, &met.before, sides));
+                flags[14..].copy_from_slice(&of_closing(marks, closed, &met.before, sides));
             }
         }
-        Act::Call(call) if met.number == 0 => flags[7..13].copy_from_slice(&of_call(call, met, sides)),
+        Act::Call(call) if met.number == 0 => flags[8..14].copy_from_slice(&of_call(call, met, sides)),
         _ => {}
     }
     flags
 }
 
-fn of_opening(met: &Met, sides: &Sides) -> [bool; 7] {
+fn of_opening(opening: &Opening, met: &Met, sides: &Sides) -> [bool; 8] {
     let accepted = met.number == 0;
     let contract = &sides.record.contract;
     let basis = |number: u32| accepted && contract.basis == number;
@@ -159,6 +160,7 @@ fn of_opening(met: &Met, sides: &Sides) -> [bool; 7] {
         basis(2) && contract.power == 0,
         accepted && met.before.is_open(),
         !accepted && met.before.is_open(),
+        basis(2) && has_half(opening.power as u64, &opening.currents),
     ]
 }
 

@@ -43,6 +43,9 @@ fn currents(dice: &mut Dice) -> Vec<u32> {
         0 => dice.pick(&[1, 64]),
         _ => dice.from_to(1, 64),
     };
+    if dice.percent(25) {
+        return vec![current(dice); points as usize]; // an odd power then comes to a half
+    }
     (0..points).map(|_| current(dice)).collect()
 }
 
