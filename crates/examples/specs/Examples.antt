@@ -52,7 +52,8 @@ after_march = leaves (leaves (leaves (opened one_kilowatt) (plainly 744)) (plain
 
 pub record Examples : Type 0 where
   -- a) February: 2023 28 days, 2024 29, 2100 28, 2400 29
-  pub a : (month_days (february 2023) ≡ 28) × (month_days (february 2024) ≡ 29) × (month_days (february 2100) ≡ 28) × (month_days (february 2400) ≡ 29)
+  pub a : (month_days (february 2023) ≡ 28) × (month_days (february 2024) ≡ 29) × (month_days (february 2100) ≡ 28)
+      × (month_days (february 2400) ≡ 29)
   -- b) 10 by 1, 1, 1: 3, 4, 3 (E2)
   pub b : shares 10 (1 ∷ 1 ∷ 1 ∷ []) ≡ 3 ∷ 4 ∷ 3 ∷ []
   -- c) 5 by 0, 0: 3, 2 (E2)

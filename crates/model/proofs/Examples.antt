@@ -75,7 +75,8 @@ opening_numbers :
     × (open_refusal 10416 (opening 2023 1 1 3 1 100 no_cable [] 0) ≡ 11) × (open_refusal 10416 (opening 2023 1 1 0 0 100 no_cable [] 0) ≡ 12)
     × (open_refusal 10416 (opening 2023 1 1 0 4 100 no_cable [] 0) ≡ 12) × (open_refusal 10416 (opening 2023 1 1 0 1 0 no_cable [] 0) ≡ 12)
     × (open_refusal 10416 (opening 2023 1 1 0 2 1000001 no_cable [] 0) ≡ 12) × (open_refusal 10416 (opening 2023 1 1 0 3 0 (cable 0 230 900 1) [] 0) ≡ 13)
-    × (open_refusal 10416 (opening 2023 1 1 0 2 100 no_cable [] 0) ≡ 14) × (open_refusal 10416 (opening 2023 1 1 0 2 100 no_cable (replicate 65 1) 0) ≡ 14)
+    × (open_refusal 10416 (opening 2023 1 1 0 2 100 no_cable [] 0) ≡ 14)
+    × (open_refusal 10416 (opening 2023 1 1 0 2 100 no_cable (replicate 65 1) 0) ≡ 14)
     × (open_refusal 10416 (opening 2023 1 1 0 2 100 no_cable (1 ∷ 2001 ∷ []) 0) ≡ 14)
     × (open_refusal 10416 (opening 2023 1 1 0 2 100 no_cable (1 ∷ 0 ∷ []) 0) ≡ 14)
     × (open_refusal 10416 (opening 2023 1 1 0 2 100 no_cable (1 ∷ 1 ∷ []) 2) ≡ 14)
@@ -106,7 +107,8 @@ number r c = own_refusal r [] c
 reading_20 :
     (number (point 2 2) (billing_hours (hours 672)) ≡ 20) × (number (point 1 2) (billing_volume 5) ≡ 20)
     × (number (point 1 0) (control_hours (hours 672)) ≡ 20)
-    × (number (point 1 2) (control_hours (hours 672)) ≡ 20) × (number (point 1 0) (control_volume 5) ≡ 20) × (number (point 1 1) (control_volume 5) ≡ 20)
+    × (number (point 1 2) (control_hours (hours 672)) ≡ 20) × (number (point 1 0) (control_volume 5) ≡ 20)
+    × (number (point 1 1) (control_volume 5) ≡ 20)
     × (number (point 1 0) (neighbour 0 5) ≡ 20) × (number (point 1 0) (neighbour 3 5) ≡ 20) × (number (point 1 0) (neighbour 2 5) ≡ 0)
 unfolding refusal_definitions
 reading_20 = (refl, refl, refl, refl, refl, refl, refl, refl, refl)

@@ -9,12 +9,12 @@ use native.Mathlib.Omega.{arith}
 use lib.Dec.{eqb}
 use lib.ListN.{length}
 use Rattle.numbers.specs.Lists.{sum_to, at}
-use Rattle.numbers.proofs.Laws.{cond_most, sum_up}
+use Rattle.numbers.proofs.Laws.{sum_up}
 use Rattle.sharing.specs.Shares.{portion, taken, shares_over, shares, every}
-use Rattle.sharing.specs.Limits.{QuotientFits, Placed}
+use Rattle.sharing.specs.Limits.{Placed}
 use Rattle.sharing.specs.declared.progress.Progress.{Progress}
 use Rattle.sharing.proofs.Laws.{at_spread}
-use Rattle.sharing.proofs.Rule.{taken_every, taken_some}
+use Rattle.sharing.proofs.Rule.{taken_every}
 
 -- a is the sum of the first h weights as they are taken
 pub record First (s : ℕ) (ws : List ℕ) (h a : ℕ) : Type 0 where
@@ -28,19 +28,11 @@ module _ {v s : ℕ} {ws : List ℕ} {place : ℕ} (p : Placed v s ws place) whe
   unfolding weight
   first_is {h} f = f.is ∙ rw (p.sum, taken_every (length ws) (at ws) h)
 
-  pub first_fits : {h a whole : ℕ} → First s ws h a → First s ws (length ws) whole → h ≤ length ws → QuotientFits v a whole
+  pub part_fits : {h a whole : ℕ} → First s ws h a → First s ws (length ws) whole → h ≤ length ws → a ≤ whole
   unfolding weight
-  first_fits {h} {a} {whole} f g l = record {
-    some = rw (first_is g) (taken_some (length ws) every (at ws) (omega (arith, p.inside)));
-    part = rw (first_is f, first_is g) (sum_up weight l);
-    volume = p.volume;
-    weights = rw (g.is, ← p.sum) (cond_most (eqb s 0) (omega (arith, p.long)) p.weights);
-  }
+  part_fits f g l = rw (first_is f, first_is g) (sum_up weight l)
 
   module _ {before after whole : ℕ} (f : First s ws place before) (g : First s ws (place + 1) after) (i : First s ws (length ws) whole) where
-    pub parts_fit : (before ≤ whole) × (after ≤ whole)
-    parts_fit = ((first_fits f i (omega (arith, p.inside))).part, (first_fits g i (omega (arith, p.inside))).part)
-
     first_up : before ≤ after
     unfolding weight
     first_up = rw (first_is f, first_is g, add-one) (le-add_right (sum_to weight place) (weight place))
