@@ -1,31 +1,30 @@
-//! Holds the structs of `raw` to the layout that the archive was compiled with: the size of each struct and the offset
-//! of each field, in bytes. A number that differs, or a field that is missing here, does not compile.
+//! Holds the structs of `raw` to the table of `fields`: each has these fields and no others, of these widths and in this
+//! order, and is laid out as C lays it out where a number is aligned to its own size. What differs does not compile. The
+//! sizes and offsets that come of it are those of the header, as `tests/calls/layout.rs` has it.
 
+use crate::fields::table;
 use crate::raw::*;
-use core::mem::{offset_of, size_of};
-
-macro_rules! layout {
-    ($($name:ident $size:literal { $($field:tt $offset:literal),* })*) => {$(
-        const _: () = assert!(size_of::<$name>() == $size);
-        $(const _: () = assert!(offset_of!($name, $field) == $offset);)*
-        const _: fn($name) = |$name { $($field: _),* }| ();
-    )*};
-}
+use core::mem::{align_of, offset_of, size_of};
 
 // Lengths are lent as size_t, which has 64 bits.
 const _: () = assert!(size_of::<usize>() == 8);
 
-layout! {
-    Kw 4 { 0 0 }
-    Kwh 8 { 0 0 }
-    Date 8 { year 0, month 4 }
-    Cable 16 { amperes 0, volts 4, cosine 8, phases 12 }
-    Contract 32 { billing 0, control 4, basis 8, power 12, cable 16 }
-    Service 24 { run 0, serving 4, denials 8, fault 16 }
-    Past 56 { years 0, latest 48 }
-    Reading 16 { given 0, volume 8 }
-    Readings 64 { billing 0, control 16, first 32, second 48 }
-    Record 200 { opened 0, contract 4, date 36, service 48, past 72, readings 128, total 192 }
-    Figures 40 { ground 0, volume 8, capacity 16, sum 24, days 32 }
-    Answer 248 { refusal 0, after 8, figures 208 }
+const _: () = assert!(align_of::<u32>() == 4 && size_of::<Kw>() == 4 && align_of::<Kw>() == 4);
+const _: () = assert!(align_of::<u64>() == 8 && size_of::<Kwh>() == 8 && align_of::<Kwh>() == 8);
+
+macro_rules! layout {
+    ($($part:ident { $($field:ident: $width:ty $([$($limits:expr),*])?,)* })*) => {$(
+        const _: fn($part) = |$part { $($field),* }| { $(let _: $width = $field;)* };
+        const _: () = {
+            let end = 0_usize;
+            $(
+                let start = end.next_multiple_of(align_of::<$width>());
+                assert!(offset_of!($part, $field) == start);
+                let end = start + size_of::<$width>();
+            )*
+            assert!(size_of::<$part>() == end.next_multiple_of(align_of::<$part>()));
+        };
+    )*};
 }
+
+table! { layout }

@@ -64,6 +64,7 @@
 #![deny(unsafe_code)]
 
 mod call;
+mod fields;
 mod layout;
 mod numbers;
 mod raw;

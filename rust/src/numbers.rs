@@ -1,64 +1,115 @@
 //! A record as plain numbers, in the order of `sallowbingo_record` in the C header.
 
-use crate::raw::{Cable, Contract, Date, Kw, Kwh, Past, Reading, Readings, Record, Service};
-use core::array::IntoIter;
+use crate::fields::table;
+use crate::raw::*;
+use core::slice::{Iter, IterMut};
 
 /// The numbers that a record is made of.
-pub const FIELDS: usize = 37;
+pub const FIELDS: usize = Record::COUNT;
 
 pub fn numbers(record: &Record) -> [u64; FIELDS] {
-    let Record { opened, contract, date, service, past, readings, total } = *record;
-    let Contract { billing, control, basis, power, cable } = contract;
-    let kept = [opened, billing, control, basis, power.0, cable.amperes, cable.volts, cable.cosine, cable.phases];
-    let state = [date.year, date.month, service.run, service.serving, service.denials];
-    let given = [readings.billing, readings.control, readings.first, readings.second];
-
-    let words = kept.into_iter().chain(state).map(u64::from).chain([service.fault]);
-    let rows = past.years.into_iter().map(u64::from).chain([past.latest]);
-    let volumes = given.into_iter().flat_map(|reading| [u64::from(reading.given), reading.volume.0]);
     let mut numbers = [0; FIELDS];
-    for (to, from) in numbers.iter_mut().zip(words.chain(rows).chain(volumes).chain([total.0])) {
-        *to = from;
-    }
+    record.give(&mut numbers.iter_mut());
     numbers
 }
 
 /// The record of such numbers, or none if one of them does not fit its field of 32 bits.
 pub fn from_numbers(numbers: [u64; FIELDS]) -> Option<Record> {
-    let mut n = Numbers(numbers.into_iter());
-    let opened = n.word()?;
-    let (billing, control, basis, power) = (n.word()?, n.word()?, n.word()?, Kw(n.word()?));
-    let cable = Cable { amperes: n.word()?, volts: n.word()?, cosine: n.word()?, phases: n.word()? };
-    let contract = Contract { billing, control, basis, power, cable };
-    let date = Date { year: n.word()?, month: n.word()? };
-    let service = Service { run: n.word()?, serving: n.word()?, denials: n.word()?, fault: n.long()? };
-    let past = Past { years: n.years()?, latest: n.long()? };
-    let (billing, control, first, second) = (n.reading()?, n.reading()?, n.reading()?, n.reading()?);
-    let readings = Readings { billing, control, first, second };
-    Some(Record { opened, contract, date, service, past, readings, total: Kwh(n.long()?) })
+    Record::take(&mut numbers.iter())
 }
 
-/// The numbers that are not taken yet; a field takes the next, and none if it does not fit.
-struct Numbers(IntoIter<u64, FIELDS>);
+/// What stands as so many numbers, one after another.
+trait Numbers: Sized {
+    const COUNT: usize;
 
-impl Numbers {
-    fn long(&mut self) -> Option<u64> {
-        self.0.next()
-    }
+    /// Puts them into the next places.
+    fn give(&self, to: &mut IterMut<u64>);
 
-    fn word(&mut self) -> Option<u32> {
-        self.long()?.try_into().ok()
-    }
+    /// Takes the next ones, and is none if one of them does not fit.
+    fn take(from: &mut Iter<u64>) -> Option<Self>;
+}
 
-    fn years(&mut self) -> Option<[u32; 12]> {
-        let mut years = [0; 12];
-        for year in &mut years {
-            *year = self.word()?;
+impl Numbers for u64 {
+    const COUNT: usize = 1;
+
+    fn give(&self, to: &mut IterMut<u64>) {
+        if let Some(place) = to.next() {
+            *place = *self;
         }
-        Some(years)
     }
 
-    fn reading(&mut self) -> Option<Reading> {
-        Some(Reading { given: self.word()?, volume: Kwh(self.long()?) })
+    fn take(from: &mut Iter<u64>) -> Option<u64> {
+        from.next().copied()
     }
 }
+
+impl Numbers for u32 {
+    const COUNT: usize = 1;
+
+    fn give(&self, to: &mut IterMut<u64>) {
+        u64::from(*self).give(to);
+    }
+
+    fn take(from: &mut Iter<u64>) -> Option<u32> {
+        u64::take(from)?.try_into().ok()
+    }
+}
+
+impl<const N: usize> Numbers for [u32; N] {
+    const COUNT: usize = N;
+
+    fn give(&self, to: &mut IterMut<u64>) {
+        self.iter().for_each(|word| word.give(to));
+    }
+
+    fn take(from: &mut Iter<u64>) -> Option<[u32; N]> {
+        let mut words = [0; N];
+        for word in &mut words {
+            *word = u32::take(from)?;
+        }
+        Some(words)
+    }
+}
+
+impl Numbers for Kw {
+    const COUNT: usize = 1;
+
+    fn give(&self, to: &mut IterMut<u64>) {
+        self.0.give(to);
+    }
+
+    fn take(from: &mut Iter<u64>) -> Option<Kw> {
+        u32::take(from).map(Kw)
+    }
+}
+
+impl Numbers for Kwh {
+    const COUNT: usize = 1;
+
+    fn give(&self, to: &mut IterMut<u64>) {
+        self.0.give(to);
+    }
+
+    fn take(from: &mut Iter<u64>) -> Option<Kwh> {
+        u64::take(from).map(Kwh)
+    }
+}
+
+/// A struct stands as its fields, in the order of the table.
+macro_rules! structs {
+    ($($part:ident { $($field:ident: $width:ty $([$($limits:expr),*])?,)* })*) => {$(
+        impl Numbers for $part {
+            const COUNT: usize = 0 $(+ <$width>::COUNT)*;
+
+            fn give(&self, to: &mut IterMut<u64>) {
+                $(self.$field.give(to);)*
+            }
+
+            fn take(from: &mut Iter<u64>) -> Option<$part> {
+                Some($part { $($field: <$width>::take(from)?),* })
+            }
+        }
+    )*};
+}
+
+table! { structs }

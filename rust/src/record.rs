@@ -153,12 +153,10 @@ impl Record {
 impl Record {
     /// The record's fields as numbers, in the order of `sallowbingo_record` in the C header.
     ///
-    /// To keep a point, keep these and the words of its store; [`Record::from_numbers`] makes the record again. The
-    /// numbers are: 1 for open; the contract's billing, control, basis, power, amperes, volts, cosine and phases; the
-    /// open year and month; run, in service (1) or out (0), denials, month of the last fault; the year that the row of
-    /// each of the twelve calendar months holds, and the latest past month; 1 or 0 for given and the volume of the
-    /// billing, control, first and second neighbour reading; the total. Months of faults and of the past are
-    /// year × 12 + month, or 0 for none.
+    /// They are, field by field: whether the point is open; its contract; the open month; its service; the past, with
+    /// the year that the row of each of the twelve calendar months holds; this month's readings; the total. Flags are 1
+    /// or 0. The months of the last fault and of the latest past are year × 12 + month, or 0 for none. To keep a point,
+    /// keep these numbers and the words of its store; [`Record::from_numbers`] makes the record again.
     pub fn numbers(&self) -> [u64; FIELDS] {
         numbers::numbers(&self.0)
     }
@@ -182,14 +180,13 @@ impl Record {
     /// let point = open(contract, Date { year: 2024, month: 2 }, &[], 0, &mut store)?;
     ///
     /// let mut numbers = point.numbers();
-    /// assert_eq!(numbers[..11], [1, 1, 0, 1, 100, 0, 0, 0, 0, 2024, 2]);
     /// assert_eq!(Record::from_numbers(numbers), Some(point));
     ///
-    /// numbers[10] = 13; // a month that no point can have
+    /// numbers[0] = 2; // the point is open with 1
     /// let mut wrong = Record::from_numbers(numbers).unwrap();
     /// assert_eq!(wrong.deny(&mut store), Err(Refusal::Record));
     ///
-    /// numbers[10] = 1 << 32; // does not fit
+    /// numbers[0] = 1 << 32; // does not fit
     /// assert_eq!(Record::from_numbers(numbers), None);
     /// # Ok::<(), Refusal>(())
     /// ```

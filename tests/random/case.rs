@@ -1,15 +1,16 @@
 //! A test case: steps on a point, and their text. The text is that of `tests/histories`, with three lines more:
 //!
 //!     lend WORDS           the next call is lent that many words of the store
-//!     record N1 .. N37     the record becomes this one, its fields in the header's order, and the store all 0
+//!     record NAME=N ..     the record becomes this one, 0 in each field that is not named, and the store all 0
 //!     store START NUMBERS  the words of the store from START on become these; it follows a record
 //!
 //! Before the first line the record is all 0, and the store's words are 9,000, 9,001 and so on.
 
-use crate::numbers::{from_numbers, numbers, FIELDS};
+use crate::numbers::{from_numbers, numbers};
 use crate::raw;
 use crate::reference::calls::{Call, Opening};
 use crate::reference::text;
+use crate::rows;
 use crate::sides::{ROW, SPARE, STORE};
 use std::fmt::Write;
 
@@ -64,7 +65,8 @@ pub fn write(steps: &[Step]) -> String {
 }
 
 fn write_forged(out: &mut String, forged: &Forged) {
-    writeln!(out, "record {}", joined(&numbers(&forged.record), " ")).unwrap();
+    let record = format!("record {}", rows::write(&numbers(&forged.record)));
+    writeln!(out, "{}", record.trim_end()).unwrap(); // all 0, it names no field
     for (start, words) in &forged.words {
         writeln!(out, "store {start} {}", list(words)).unwrap();
     }
@@ -160,10 +162,7 @@ fn read_call(step: text::Step, lent: usize) -> Result<Step, String> {
 }
 
 fn read_record(rest: &str) -> Result<Forged, String> {
-    let due = || format!("{FIELDS} numbers are due");
-    let values: Result<Vec<u64>, _> = rest.split_whitespace().map(str::parse).collect();
-    let numbers: [u64; FIELDS] = values.map_err(|_| due())?.try_into().map_err(|_| due())?;
-    let record = from_numbers(numbers).ok_or("a number has more than 32 bits")?;
+    let record = from_numbers(rows::read(rest)?).ok_or("a number does not fit its field")?;
     Ok(Forged { record, words: Vec::new() })
 }
 

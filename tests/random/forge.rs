@@ -7,12 +7,12 @@ use crate::kernel;
 use crate::numbers::{from_numbers, numbers, FIELDS};
 use crate::reference::point::{self, Record, BILLING, CONTROL};
 use crate::reference::rules::{index, Contract};
+use crate::rows::{Row, ROWS};
 use crate::sides::{ROW, STORE};
 use crate::values::{self, MILLION};
 
 const TOTAL: u64 = point::TOTAL_LIMIT;
 const WIDE: u64 = u64::MAX;
-const SHORT: u64 = u32::MAX as u64;
 
 /// A forged record and store; `base` and `store` are what a history left.
 pub fn forged(dice: &mut Dice, base: &Record, store: &[u32]) -> Forged {
@@ -22,25 +22,16 @@ pub fn forged(dice: &mut Dice, base: &Record, store: &[u32]) -> Forged {
     let mut fields = numbers(&kernel::as_raw(&record));
     if live || dice.percent(50) {
         for _ in 0..dice.pick(&[1, 1, 1, 2, 3]) {
-            let field = dice.below(FIELDS as u64) as usize;
-            fields[field] = fitting(field, value(dice, field, &record));
+            let place = dice.below(FIELDS as u64) as usize;
+            fields[place] = value(dice, &ROWS[place], &record) & ROWS[place].widest;
         }
     } else if dice.percent(10) {
-        fields = std::array::from_fn(|field| fitting(field, dice.next() >> dice.below(64)));
+        fields = std::array::from_fn(|place| (dice.next() >> dice.below(64)) & ROWS[place].widest);
     }
     if dice.percent(15) {
         words.push(edge_word(dice));
     }
     Forged { record: from_numbers(fields).expect("every number was cut to its field"), words }
-}
-
-/// The number cut to 32 bits where the field has no more: all but months, volumes and the total.
-fn fitting(field: usize, number: u64) -> u64 {
-    if matches!(field, 14 | 27 | 29 | 31 | 33 | 35 | 36) {
-        number
-    } else {
-        number & SHORT
-    }
 }
 
 /// A record that number 2 lets pass.
@@ -133,32 +124,41 @@ fn edge_word(dice: &mut Dice) -> (usize, Vec<u32>) {
     (place, vec![dice.pick(&[limit, limit + 1, limit + 1, u32::MAX])])
 }
 
-/// A value for a field, by its place in the header's order: its limits, one outside, or any number.
-fn value(dice: &mut Dice, field: usize, record: &Record) -> u64 {
-    let (year, month) = (record.year as u64, record.month as u64);
-    let most = record.t() as u64 * MILLION;
+/// A number for a field: where a rule holds it against the open month, one near that, else one at its limits or
+/// outside; or any number.
+fn value(dice: &mut Dice, row: &Row, record: &Record) -> u64 {
+    let (year, month, most) = (record.year as u64, record.month as u64, record.t() as u64 * MILLION);
+    let (before, after, widest) = (year.saturating_sub(1), year + 1, row.widest);
     let shift = dice.below(64);
     let any = dice.next() >> shift;
-    match field {
-        0 => dice.pick(&[0, 1, 2, SHORT]),
-        1..=3 => dice.pick(&[0, 1, 2, 3, 4, SHORT]),
-        4 => dice.pick(&[0, 1, MILLION, MILLION + 1, SHORT, any]),
-        5 => dice.pick(&[0, 1, 2_000, 2_001, SHORT, any]),
-        6 => dice.pick(&[0, 1, 250_000, 250_001, SHORT, any]),
-        7 => dice.pick(&[0, 1, 1_000, 1_001, SHORT, any]),
-        8 => dice.pick(&[0, 1, 2, 3, 4, SHORT]),
-        9 => dice.pick(&[0, 2013, 2014, year.saturating_sub(1), year + 1, 2999, 3000, 3001, SHORT, any]),
-        10 => dice.pick(&[0, 1, 2, 12, 13, month + 1, month.saturating_sub(1), SHORT, any]),
-        11 => dice.pick(&[0, 1, 2, 3, 11_999, 12_000, 12_001, SHORT, any]),
-        12 => dice.pick(&[0, 1, 2, SHORT]),
-        13 => dice.pick(&[0, 1, 2, 3, SHORT]),
-        14 => fault(dice, record, any),
-        15..=26 => dice.pick(&[0, 1, 2013, 2014, year.saturating_sub(1), year, year + 1, 2999, 3000, SHORT, any]),
-        27 => latest(dice, record, any),
-        28 | 30 | 32 | 34 => dice.pick(&[0, 1, 2, SHORT]),
-        29 | 31 | 33 | 35 => dice.pick(&[0, 1, most, most + 1, WIDE, any]),
-        _ => dice.pick(&[0, 1, TOTAL - 1, TOTAL, TOTAL + 1, WIDE, any]),
+    match row.name.as_str() {
+        "date.year" => dice.pick(&[0, 2013, 2014, before, after, 2999, 3000, 3001, widest, any]),
+        "date.month" => dice.pick(&[0, 1, 2, 12, 13, month + 1, month.saturating_sub(1), widest, any]),
+        "service.fault" => fault(dice, record, any),
+        "past.latest" => latest(dice, record, any),
+        name if name.starts_with("past.years.") => {
+            dice.pick(&[0, 1, 2013, 2014, before, year, after, 2999, 3000, widest, any])
+        }
+        name if name.ends_with(".volume") => dice.pick(&[0, 1, most, most + 1, widest, any]),
+        _ => dice.pick(&tries(row, any)),
     }
+}
+
+/// The edges of a field's limits and what a rule turns on beside them; any number where they are more than a few kinds.
+fn tries(row: &Row, any: u64) -> Vec<u64> {
+    let mut tries = row.edges();
+    tries.extend_from_slice(match row.name.as_str() {
+        "contract.billing" | "contract.control" => &[4],
+        "service.run" => &[2, 3, 11_999],
+        "total" => &[TOTAL - 1],
+        _ => &[],
+    });
+    tries.sort();
+    tries.dedup();
+    if row.greatest() > 3 {
+        tries.push(any);
+    }
+    tries
 }
 
 /// A month of the last fault: of the calendar's ends, or near a year before the open month, or near that.

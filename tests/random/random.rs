@@ -13,6 +13,8 @@ mod call;
 mod case;
 mod crash;
 mod dice;
+#[path = "../../rust/src/fields.rs"]
+mod fields;
 mod forge;
 mod history;
 mod host;
@@ -24,6 +26,7 @@ mod raw;
 #[allow(dead_code)]
 #[path = "../reference/reference.rs"]
 mod reference;
+mod rows;
 mod shrink;
 mod sides;
 mod tally;

@@ -1,9 +1,18 @@
 //! The calls on a point through the safe functions.
 
+#[path = "../../src/fields.rs"]
+mod fields;
 mod hosts;
+mod layout;
+mod limits;
 mod numbers;
+#[allow(dead_code)] // the layout of its structs is tested, and the calls by the crate's own functions
+#[path = "../../src/raw.rs"]
+mod raw;
 mod refusals;
 mod refused;
+#[path = "../../../tests/random/rows.rs"]
+mod rows;
 mod year;
 
 use sallowbingo::{basis, mark, meter, open, Cable, Contract, Date, Figures, Kw, Record, Refusal, ROW, STORE};
@@ -65,4 +74,9 @@ fn day<T: Copy>(nine: T, ten: T, other: T) -> [T; 24] {
 /// A working day: hours 9 and 10 are peaks, and hour 9 is the capacity hour.
 fn working_day() -> [u8; 24] {
     day(mark::BOTH, mark::PEAK, mark::ORDINARY)
+}
+
+/// The place of a field among the numbers of a record.
+fn place(name: &str) -> usize {
+    rows::ROWS.iter().position(|row| row.name == name).unwrap()
 }

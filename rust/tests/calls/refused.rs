@@ -1,7 +1,7 @@
 //! Refused calls: each number, and that record, store and hour buffer are as before.
 
-use super::{Point, AGREED, CABLE};
-use sallowbingo::{basis, meter, open, reason, source, Cable, Contract, Date, Kw, Kwh, Record, Refusal, STORE};
+use super::{place, Point, AGREED, CABLE};
+use sallowbingo::{basis, meter, open, reason, source, Cable, Contract, Date, Kw, Kwh, Record, Refusal, FIELDS, STORE};
 
 type Call = fn(&mut Point) -> Result<(), Refusal>;
 
@@ -66,11 +66,11 @@ fn over() -> Point {
     p
 }
 
-/// A point whose record has another number in one place.
-fn forged(place: usize, number: u64) -> Point {
+/// A point whose record has another number in one field.
+fn forged(name: &str, number: u64) -> Point {
     let p = interval();
     let mut numbers = p.record.numbers();
-    numbers[place] = number;
+    numbers[place(name)] = number;
     Point { record: Record::from_numbers(numbers).unwrap(), ..p }
 }
 
@@ -209,13 +209,14 @@ fn store_of_another_length() {
 #[test]
 fn record_that_no_point_can_have() {
     for call in METHODS {
-        check(Refusal::Record, Point { record: Record::from_numbers([0; 37]).unwrap(), ..read() }, call);
-        check(Refusal::Record, Point { record: Record::from_numbers([u32::MAX.into(); 37]).unwrap(), ..read() }, call);
-        check(Refusal::Record, forged(0, 2), call); // neither open nor not
-        check(Refusal::Record, forged(5, 1), call); // a cable on basis 1
-        check(Refusal::Record, forged(11, 12_001), call); // run
-        check(Refusal::Record, forged(27, 2023 * 12 + 1), call); // latest past in the open month
-        check(Refusal::Record, forged(36, 30_000_000_000_001), call); // total
+        for numbers in [[0; FIELDS], [u32::MAX.into(); FIELDS]] {
+            check(Refusal::Record, Point { record: Record::from_numbers(numbers).unwrap(), ..read() }, call);
+        }
+        check(Refusal::Record, forged("opened", 2), call); // neither open nor not
+        check(Refusal::Record, forged("contract.cable.amperes", 1), call); // a cable on basis 1
+        check(Refusal::Record, forged("service.run", 12_001), call);
+        check(Refusal::Record, forged("past.latest", 2023 * 12 + 1), call); // latest past in the open month
+        check(Refusal::Record, forged("total", 30_000_000_000_001), call);
     }
 }
 
