@@ -1,10 +1,9 @@
 //! The kernel's side: each call through the C interface, and its record beside the reference's.
 
 use crate::call;
-use crate::raw::{self, Answer, Cable, Contract, Date, Kw, Kwh, Past, Reading, Readings, Service};
+use crate::raw::{self, Answer, Cable, Contract, Date, Kw, Kwh};
 use crate::reference::calls::{Call, Opening};
 use crate::reference::point::Record;
-use crate::reference::rules;
 
 pub fn open(opening: &Opening, store: &mut [u32]) -> Answer {
     let Opening { billing, control, basis, power, amperes, volts, cosine, phases, .. } = *opening;
@@ -28,55 +27,72 @@ pub fn call(r: raw::Record, store: &mut [u32], hours: &mut [u32], call: &Call) -
     }
 }
 
-/// The record that the C interface has where the reference has this one.
-pub fn as_raw(r: &Record) -> raw::Record {
-    let rules::Contract { billing, control, basis, power, amperes, volts, cosine, phases } = r.contract;
-    let reading = |which: usize| Reading { given: r.given[which], volume: Kwh(r.volumes[which]) };
-    raw::Record {
-        opened: r.is_open() as u32,
-        contract: Contract {
-            billing,
-            control,
-            basis,
-            power: Kw(power),
-            cable: Cable { amperes, volts, cosine, phases },
-        },
-        date: Date { year: r.year, month: r.month },
-        service: Service { run: r.run, serving: r.serving, denials: r.denials, fault: r.fault as u64 },
-        past: Past { years: r.years, latest: r.latest as u64 },
-        readings: Readings { billing: reading(0), control: reading(1), first: reading(2), second: reading(3) },
-        total: Kwh(r.total),
+/// A number of 32 bits or 64 from one of the other record. A month's number that has more than 32 bits is as much outside
+/// the limits with 32.
+trait Same {
+    fn same(number: impl Into<u64>) -> Self;
+}
+
+impl Same for u32 {
+    fn same(number: impl Into<u64>) -> u32 {
+        number.into().try_into().unwrap_or(u32::MAX)
     }
 }
 
-/// A record of any bits as the reference has it: its year is 0 where it is not open, and a month's number that has more
-/// than 32 bits is as much outside the limits with 32.
-pub fn as_reference(r: &raw::Record) -> Record {
-    let raw::Record { contract, service, past, readings, .. } = r;
-    let Cable { amperes, volts, cosine, phases } = contract.cable;
-    let month = |number: u64| u32::try_from(number).unwrap_or(u32::MAX);
-    let four = [readings.billing, readings.control, readings.first, readings.second];
-    Record {
-        contract: rules::Contract {
-            billing: contract.billing,
-            control: contract.control,
-            basis: contract.basis,
-            power: contract.power.0,
-            amperes,
-            volts,
-            cosine,
-            phases,
-        },
-        year: if r.opened == 1 { r.date.year } else { 0 },
-        month: r.date.month,
-        run: service.run,
-        serving: service.serving,
-        denials: service.denials,
-        fault: month(service.fault),
-        years: past.years,
-        latest: month(past.latest),
-        given: four.map(|reading| reading.given),
-        volumes: four.map(|reading| reading.volume.0),
-        total: r.total.0,
+impl Same for u64 {
+    fn same(number: impl Into<u64>) -> u64 {
+        number.into()
     }
+}
+
+/// The two records, of each number where it stands in the C interface's and where in the reference's.
+macro_rules! records {
+    ($raw:ident, $own:ident: $($there:expr, $here:expr;)*) => {
+        /// The record that the C interface has where the reference has this one.
+        pub fn as_raw($own: &Record) -> raw::Record {
+            let mut $raw = raw::Record::default();
+            $($there = Same::same($here);)*
+            $raw.past.years = $own.years;
+            $raw.opened = $own.is_open().into();
+            $raw
+        }
+
+        /// A record of any bits as the reference has it: its year is 0 where it is not open.
+        pub fn as_reference($raw: &raw::Record) -> Record {
+            let mut $own = Record::default();
+            $($here = Same::same($there);)*
+            $own.years = $raw.past.years;
+            if $raw.opened != 1 {
+                $own.year = 0;
+            }
+            $own
+        }
+    };
+}
+
+records! { raw, own:
+    raw.contract.billing, own.contract.billing;
+    raw.contract.control, own.contract.control;
+    raw.contract.basis, own.contract.basis;
+    raw.contract.power.0, own.contract.power;
+    raw.contract.cable.amperes, own.contract.amperes;
+    raw.contract.cable.volts, own.contract.volts;
+    raw.contract.cable.cosine, own.contract.cosine;
+    raw.contract.cable.phases, own.contract.phases;
+    raw.date.year, own.year;
+    raw.date.month, own.month;
+    raw.service.run, own.run;
+    raw.service.serving, own.serving;
+    raw.service.denials, own.denials;
+    raw.service.fault, own.fault;
+    raw.past.latest, own.latest;
+    raw.readings.billing.given, own.given[0];
+    raw.readings.billing.volume.0, own.volumes[0];
+    raw.readings.control.given, own.given[1];
+    raw.readings.control.volume.0, own.volumes[1];
+    raw.readings.first.given, own.given[2];
+    raw.readings.first.volume.0, own.volumes[2];
+    raw.readings.second.given, own.given[3];
+    raw.readings.second.volume.0, own.volumes[3];
+    raw.total.0, own.total;
 }
