@@ -4,11 +4,20 @@
 //     bench/run            compares and times
 //     bench/run --check    compares only, and prints 'N passed, M failed'
 mod common;
+#[path = "../rust/src/fields.rs"]
+mod fields;
+#[path = "../rust/src/numbers.rs"]
+mod numbers;
 mod plain;
+#[allow(dead_code)] // records as text are the random histories'
+#[path = "../tests/random/rows.rs"]
+mod rows;
 
 use common::{median, Random, Tests};
-use plain::raw::{sallowbingo_close, sallowbingo_open_point};
+use numbers::{from_numbers, numbers, FIELDS};
+use plain::raw::{self, sallowbingo_close, sallowbingo_open_point};
 use plain::{Answer, Cable, Contract, Date, Figures, Kw, Kwh, Past, Reading, Record, BILLING_ROW, CONTROL_ROW, ROW, STORE};
+use rows::ROWS;
 use std::hint::black_box;
 use std::time::{Duration, Instant};
 
@@ -220,40 +229,25 @@ fn any_case(random: &mut Random) -> Case {
     Case { name: "", ground: 0, record, store, marks: any_marks(random, record.date.hours()), room: ROW }
 }
 
-// Puts a value at a limit or just beyond it into a field of the record.
+// Puts a number at a limit or just beyond it into a field of the record: at the field's own limits, or at those that the
+// open month sets; or opens the month after the calendar, or the one after that.
 fn forge(random: &mut Random, r: &mut Record) {
-    let open = r.date.number();
-    let months = [0, 1, 2014 * 12, 2014 * 12 + 1, open.saturating_sub(1), open, open + 1, 36_000, 36_001, (1 << 32) + open, u64::MAX];
-    let limit = pick(random, &[672, 696, 720, 744]) * 1_000_000;
-    let volumes = [0, 1, limit, limit + 1, u64::MAX];
-    let (k, flags) = (random.next(12) as usize, [0, 1, 2, u32::MAX]);
-    match random.next(26) {
-        0 => r.opened = pick(random, &flags),
-        1 => r.contract.billing = pick(random, &[0, 1, 2, 3]),
-        2 => r.contract.control = pick(random, &[0, 1, 2, 3]),
-        3 => r.contract.basis = pick(random, &[0, 1, 2, 3, 4]),
-        4 => r.contract.power.0 = pick(random, &[0, 1, 1_000_000, 1_000_001]),
-        5 => r.contract.cable.amperes = pick(random, &[0, 1, 2_000, 2_001]),
-        6 => r.contract.cable.volts = pick(random, &[0, 1, 250_000, 250_001]),
-        7 => r.contract.cable.cosine = pick(random, &[0, 1, 1_000, 1_001]),
-        8 => r.contract.cable.phases = pick(random, &[0, 1, 2, 3, 4]),
-        9 => r.date.year = pick(random, &[0, 2013, 2014, 2999, 3000, u32::MAX]),
-        10 => r.date.month = pick(random, &[0, 1, 12, 13, u32::MAX]),
-        11 => r.service.run = pick(random, &[0, 12_000, 12_001, u32::MAX]),
-        12 => r.service.serving = pick(random, &flags),
-        13 => r.service.denials = pick(random, &[0, 2, 3, u32::MAX]),
-        14 => r.service.fault = pick(random, &months),
-        15 | 16 => r.past.years[k] = pick(random, &[0, 2013, 2014, r.date.year, r.date.year.wrapping_add(1), u32::MAX]),
-        17 => r.past.latest = pick(random, &months),
-        18 => r.readings.billing.given = pick(random, &flags),
-        19 => r.readings.billing.volume.0 = pick(random, &volumes),
-        20 => r.readings.control.given = pick(random, &flags),
-        21 => r.readings.control.volume.0 = pick(random, &volumes),
-        22 => r.readings.first = Reading { given: pick(random, &flags), volume: Kwh(pick(random, &volumes)) },
-        23 => r.readings.second = Reading { given: pick(random, &flags), volume: Kwh(pick(random, &volumes)) },
-        24 => r.date = Date { year: 3000, month: pick(random, &[1, 2]) },
-        _ => r.total.0 = pick(random, &[30_000_000_000_000, 30_000_000_000_001, u64::MAX]),
+    if random.next(26) == 0 {
+        r.date = Date { year: 3000, month: pick(random, &[1, 2]) };
+        return;
     }
+    let (mut fields, place) = (numbers(r), random.next(FIELDS as u64) as usize);
+    let (row, open, year) = (&ROWS[place], r.date.number(), u64::from(r.date.year));
+    let limit = pick(random, &[672, 696, 720, 744]) * 1_000_000;
+    let mut tries = row.edges();
+    match row.name.as_str() {
+        "service.fault" | "past.latest" => tries.extend([open.saturating_sub(1), open, open + 1, (1 << 32) + open]),
+        name if name.starts_with("past.years.") => tries.extend([year, year + 1]),
+        name if name.ends_with(".volume") => tries.extend([limit, limit + 1]),
+        _ => (),
+    }
+    fields[place] = pick(random, &tries) & row.widest;
+    *r = from_numbers(fields).expect("every number was cut to its field");
 }
 
 // Gives a case a cause of refusal, or one that just misses it.
