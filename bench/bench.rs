@@ -14,13 +14,13 @@ const VOLUME_MAX: u64 = 744_000_000;
 const WEIGHTS_MAX: u64 = 2_232_000_000;
 
 extern "C" {
-    fn bench_share_by_row(volume: u64, store: *const u32, words: usize, row: usize, t: usize, chosen: *const bool, flags: usize, hours: *mut u32, room: usize) -> bool;
+    fn bench_share_by_past(volume: u64, past: *const u32, t: usize, chosen: *const bool, flags: usize, hours: *mut u32, room: usize) -> bool;
     fn bench_peak_rule(volume: u64, power: u32, marks: *const u8, n: usize, hours: *mut u32, room: usize) -> bool;
     fn bench_none_above(words: *const u32, n: usize, limit: u32) -> bool;
 }
 
-fn share_rattle(volume: u64, store: &[u32], row: usize, t: usize, chosen: &[bool], hours: &mut [u32]) -> bool {
-    unsafe { bench_share_by_row(volume, store.as_ptr(), store.len(), row, t, chosen.as_ptr(), chosen.len(), hours.as_mut_ptr(), hours.len()) }
+fn share_rattle(volume: u64, past: &[u32], chosen: &[bool], hours: &mut [u32]) -> bool {
+    unsafe { bench_share_by_past(volume, past.as_ptr(), past.len(), chosen.as_ptr(), chosen.len(), hours.as_mut_ptr(), hours.len()) }
 }
 
 fn peak_rattle(volume: u64, power: u32, marks: &[u8], hours: &mut [u32]) -> bool {
@@ -51,11 +51,10 @@ fn half_up(x: u64, d: u64) -> u64 {
 }
 
 #[inline(never)]
-fn share_rust(volume: u64, store: &[u32], row: usize, t: usize, chosen: &[bool], hours: &mut [u32]) -> bool {
-    if store.len() != STORE || row > 13 || t > ROW || !fits(volume, chosen.len(), hours.len()) {
+fn share_rust(volume: u64, past: &[u32], chosen: &[bool], hours: &mut [u32]) -> bool {
+    if !fits(volume, chosen.len(), hours.len()) {
         return false;
     }
-    let past = &store[ROW * row..ROW * row + t];
     let sum: u64 = chosen.iter().enumerate().map(|(h, &c)| if c { weight(past, h) } else { 0 }).sum();
     if sum > WEIGHTS_MAX {
         return false;
@@ -134,6 +133,7 @@ fn compare(tests: &mut Tests) {
         let store: Vec<u32> = (0..size).map(|_| random.next(limit) as u32).collect();
         let row = random.next(15) as usize;
         let t = [0, 1, 100, 168, 672, 696, 720, 744, 745][random.next(9) as usize];
+        let past = store.get(ROW * row..ROW * row + t).unwrap_or(&[]);
         let length: usize = [0, 1, 6, 24, 672, 696, 720, 744, 745][random.next(9) as usize];
         let density = random.next(4);
         let chosen: Vec<bool> = (0..length).map(|_| density == 3 || random.next(4) < density).collect();
@@ -141,11 +141,11 @@ fn compare(tests: &mut Tests) {
         let volume = volumes[random.next(volumes.len() as u64) as usize];
         let before: Vec<u32> = (0..room).map(|_| random.next(1 << 32) as u32).collect();
         let (mut a, mut b) = (before.clone(), before.clone());
-        let (x, y) = (share_rust(volume, &store, row, t, &chosen, &mut a), share_rattle(volume, &store, row, t, &chosen, &mut b));
-        tests.check("sharing by a row: the same answer", x == y);
-        tests.check("sharing by a row: the same hours", a == b);
-        tests.check("sharing by a row: a refusal leaves the buffer", y || b == before);
-        tests.check("sharing by a row: the hours sum to the volume", !y || b.iter().map(|&h| h as u64).sum::<u64>() == volume);
+        let (x, y) = (share_rust(volume, past, &chosen, &mut a), share_rattle(volume, past, &chosen, &mut b));
+        tests.check("sharing by a past: the same answer", x == y);
+        tests.check("sharing by a past: the same hours", a == b);
+        tests.check("sharing by a past: a refusal leaves the buffer", y || b == before);
+        tests.check("sharing by a past: the hours sum to the volume", !y || b.iter().map(|&h| h as u64).sum::<u64>() == volume);
 
         let marks: Vec<u8> = (0..length).map(|_| random.next(1 + round % 5) as u8).collect();
         let power = [0, 1, 3, 100_000, 1_000_000, u32::MAX][random.next(6) as usize];
@@ -196,6 +196,7 @@ fn report(name: &str, mut rust: impl FnMut(), mut rattle: impl FnMut()) {
 fn measure() {
     let mut random = Random(1234567);
     let store: Vec<u32> = (0..STORE).map(|_| random.next(3_000_001) as u32).collect();
+    let (full, short) = (&store[ROW * 3..ROW * 4], &store[ROW..ROW + 672]);
     let chosen = vec![true; ROW];
     // working days with planned peaks from 8 to 20 and a capacity hour among them
     let marks: Vec<u8> = (0..ROW).map(|h| if h / 24 % 7 >= 5 || !(8..20).contains(&(h % 24)) { 0 } else if h % 24 == 10 { 3 } else { 1 }).collect();
@@ -203,13 +204,13 @@ fn measure() {
     let volume = 123_456_789;
     report(
         "share 744 hours by a full row",
-        || { black_box(share_rust(black_box(volume), black_box(&store), black_box(3), black_box(744), black_box(&chosen), black_box(&mut a))); },
-        || { black_box(share_rattle(black_box(volume), black_box(&store), black_box(3), black_box(744), black_box(&chosen), black_box(&mut b))); },
+        || { black_box(share_rust(black_box(volume), black_box(full), black_box(&chosen), black_box(&mut a))); },
+        || { black_box(share_rattle(black_box(volume), black_box(full), black_box(&chosen), black_box(&mut b))); },
     );
     report(
         "share 744 hours by 672",
-        || { black_box(share_rust(black_box(volume), black_box(&store), black_box(1), black_box(672), black_box(&chosen), black_box(&mut a))); },
-        || { black_box(share_rattle(black_box(volume), black_box(&store), black_box(1), black_box(672), black_box(&chosen), black_box(&mut b))); },
+        || { black_box(share_rust(black_box(volume), black_box(short), black_box(&chosen), black_box(&mut a))); },
+        || { black_box(share_rattle(black_box(volume), black_box(short), black_box(&chosen), black_box(&mut b))); },
     );
     report(
         "peak rule over 744 hours",

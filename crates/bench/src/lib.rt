@@ -5,28 +5,24 @@
 ghost use Rattle.std.specs.Prelude.{◌≡◌, ◌&&◌, length};
 ghost use Rattle.numbers.specs.Lists.{sum_to, none_above};
 ghost use Rattle.sharing.specs.Shares.{within, shares_over, past_at, stretched, chosen_at, month_fits, weights_fit, Shared};
-ghost use Rattle.store.specs.Store.{row_part, row_fits};
 ghost use Rattle.marks.specs.Peak.{peak_rule};
 
 use units::{Kw, Kwh};
 
 #[unsafe(no_mangle)]
-pub extern "C" fn bench_share_by_row(
+pub extern "C" fn bench_share_by_past(
     volume: u64,
-    store: &[u32],
-    row: usize,
-    t: usize,
+    past: &[u32],
     chosen: &[bool],
     hours: &mut [u32],
 ) -> bool
     ensures { Shared
-        (row_fits (length store.now) row t
-        && (month_fits volume (length chosen.now) (length hours.old)
-        && weights_fit (sum_to (within (chosen_at chosen.now) (past_at (row_part store.now row t))) (length chosen.now))))
-        (shares_over volume (chosen_at chosen.now) (stretched (row_part store.now row t) (length chosen.now)))
+        (month_fits volume (length chosen.now) (length hours.old)
+        && weights_fit (sum_to (within (chosen_at chosen.now) (past_at past.now)) (length chosen.now)))
+        (shares_over volume (chosen_at chosen.now) (stretched past.now (length chosen.now)))
         hours.old hours.new result }
 {
-    grounds::past::share_by_row(Kwh(volume), store, row, t, chosen, hours).is_ok()
+    sharing::share_by_past(Kwh(volume), past, chosen, hours).is_ok()
 }
 
 #[unsafe(no_mangle)]

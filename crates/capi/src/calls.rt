@@ -2,8 +2,9 @@
 // answers a struct by value. A wrapper has the contract of the call behind it. The names, a function for each call, and the
 // numbers for a source and a reason are those of the C interface, which has no enum and no Result.
 ghost use Rattle.std.specs.Prelude.{[]};
-ghost use Rattle.rules.specs.Calls.Call.{billing_hours, billing_volume, control_hours, control_volume, neighbour};
-ghost use Rattle.rules.specs.Calls.Call.{failure, admission, denial, permission, closing};
+ghost use Rattle.rules.specs.Calls.MeterReading.{billing_hours, billing_volume, control_hours, control_volume, neighbour};
+ghost use Rattle.rules.specs.Calls.Report.{failure, admission, denial, permission};
+ghost use Rattle.rules.specs.Calls.Call.{read, report, closing};
 ghost use Rattle.model.specs.Model.{state, Does};
 ghost use Rattle.model.specs.Opening.{Opens};
 
@@ -39,7 +40,7 @@ pub extern "C" fn sallowbingo_read_billing_hours(
     store: &mut [u32],
     hours: &[u32],
 ) -> Answer
-    ensures { Does (state r store.old) (billing_hours hours.now) result store.new [] }
+    ensures { Does (state r store.old) (read (billing_hours hours.now)) result store.new [] }
 {
     read_billing_hours(r, store, hours)
 }
@@ -50,21 +51,21 @@ pub extern "C" fn sallowbingo_read_control_hours(
     store: &mut [u32],
     hours: &[u32],
 ) -> Answer
-    ensures { Does (state r store.old) (control_hours hours.now) result store.new [] }
+    ensures { Does (state r store.old) (read (control_hours hours.now)) result store.new [] }
 {
     read_control_hours(r, store, hours)
 }
 
 #[unsafe(no_mangle)]
 pub extern "C" fn sallowbingo_read_billing_volume(r: Record, store: &[u32], volume: Kwh) -> Answer
-    ensures { Does (state r store.now) (billing_volume volume.0) result store.now [] }
+    ensures { Does (state r store.now) (read (billing_volume volume.0)) result store.now [] }
 {
     read_billing_volume(r, store, volume)
 }
 
 #[unsafe(no_mangle)]
 pub extern "C" fn sallowbingo_read_control_volume(r: Record, store: &[u32], volume: Kwh) -> Answer
-    ensures { Does (state r store.now) (control_volume volume.0) result store.now [] }
+    ensures { Does (state r store.now) (read (control_volume volume.0)) result store.now [] }
 {
     read_control_volume(r, store, volume)
 }
@@ -76,35 +77,35 @@ pub extern "C" fn sallowbingo_read_neighbour(
     source: u32,
     volume: Kwh,
 ) -> Answer
-    ensures { Does (state r store.now) (neighbour source volume.0) result store.now [] }
+    ensures { Does (state r store.now) (read (neighbour source volume.0)) result store.now [] }
 {
     read_neighbour(r, store, source, volume)
 }
 
 #[unsafe(no_mangle)]
 pub extern "C" fn sallowbingo_fail(r: Record, store: &mut [u32], reason: u32) -> Answer
-    ensures { Does (state r store.old) (failure reason) result store.new [] }
+    ensures { Does (state r store.old) (report (failure reason)) result store.new [] }
 {
     fail(r, store, reason)
 }
 
 #[unsafe(no_mangle)]
 pub extern "C" fn sallowbingo_admit(r: Record, store: &[u32]) -> Answer
-    ensures { Does (state r store.now) admission result store.now [] }
+    ensures { Does (state r store.now) (report admission) result store.now [] }
 {
     admit(r, store)
 }
 
 #[unsafe(no_mangle)]
 pub extern "C" fn sallowbingo_deny(r: Record, store: &mut [u32]) -> Answer
-    ensures { Does (state r store.old) denial result store.new [] }
+    ensures { Does (state r store.old) (report denial) result store.new [] }
 {
     deny(r, store)
 }
 
 #[unsafe(no_mangle)]
 pub extern "C" fn sallowbingo_permit(r: Record, store: &[u32]) -> Answer
-    ensures { Does (state r store.now) permission result store.now [] }
+    ensures { Does (state r store.now) (report permission) result store.now [] }
 {
     permit(r, store)
 }

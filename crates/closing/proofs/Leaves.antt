@@ -1,6 +1,6 @@
 -- The number of a closing, and what it leaves, as the model has them. Assumes nothing.
 use Prim.Native.Nat.{ℕ, ◌-◌, ◌≤◌}
-use mathlib.Core.Path.{◌≡◌, refl, sym, ◌∙◌}
+use mathlib.Core.Path.{◌≡◌, refl, ◌∙◌}
 use mathlib.Core.Bool.{Bool, true, false, not, cond, ◌&&◌, ◌||◌}
 use mathlib.Core.List.{List, [], append-nil}
 use native.Mathlib.Omega.{arith}
@@ -17,18 +17,20 @@ use Rattle.record.specs.declared.Record.{Record}
 use Rattle.store.specs.Store.{as_row, with_hours, written_in, store_fits}
 use Rattle.store.proofs.Laws.{length_row, length_put, written_in_lem}
 use Rattle.rules.specs.declared.Figures.{Figures}
-use Rattle.rules.specs.Calls.{closing}
+use Rattle.rules.specs.Calls.{closing, is_closing, marks_of}
 use Rattle.rules.specs.Grounds.{ground_number}
 use Rattle.rules.specs.Rules.{Outcome, days_in, rules, becomes_past, figures}
 use Rattle.rules.specs.Right.{Right}
 use Rattle.model.specs.Refusals.{refuse, refuse_anyone, own_refusal}
 use Rattle.model.specs.Model.{State, state, inputs, point_after, store_after, closed_with, accept, refusal, leaves, figures_of, hours_out}
+use Rattle.model.specs.declared.Answer.{Answer}
 use Rattle.model.specs.Model.{answer, buffer_after, Does}
 use Rattle.model.proofs.Closes.{row_few}
 use Rattle.grounds.specs.declared.Found.{Found}
 use Rattle.grounds.specs.Found.{OutcomeFound}
 use Rattle.model.proofs.Laws.{is_accepted}
-use Rattle.first_ground.proofs.Laws.{Known, known, capacity_row, capacity_within}
+use Rattle.first_ground.proofs.Marks.{capacity_row, capacity_within}
+use Rattle.closing.specs.Closes.{ClosesWith}
 
 -- 40 to 45, and before them 1 to 3; the words are judged where the store has its length
 pub number_is : (r : Record) (store marks buffer : List ℕ)
@@ -74,10 +76,6 @@ unfolding closed_with
 store_left u s l = rw (row_again u.hours l)
 
 -- A CLOSING THAT IS ACCEPTED
--- what an accepted closing knows of its record and buffers
-pub taken : (r : Record) (store marks buffer : List ℕ) → 0 ≡ refusal (state r store) (closing marks buffer) → Known r store marks buffer
-taken r store marks buffer e = known r store marks buffer (is_accepted _ _ e refl)
-
 -- the figures that the code works out from the buffer
 figures_are : (u : Outcome) (marks : List ℕ) (t : ℕ) {f : Found} {hours : List ℕ} {c : Kwh} {d : ℕ} {g : Figures} → Right t u → t ≤ 744
     → OutcomeFound u f hours
@@ -98,22 +96,28 @@ pub figures_whole : (f : Found) (c : Kwh) (d : ℕ) {g : Figures} → g.ground �
     → g ≡ record { ground = ground_number f.ground; volume = f.volume; capacity = record { 0 = capacity_in c.0 d }; sum = c; days = d }
 figures_whole f c d a b e s t = rw (← a, ← b, ← e, ← s, ← t)
 
-pub closed_does : (s : State) (marks buffer : List ℕ) {number t : ℕ} → number ≡ refusal s (closing marks buffer) → number ≡ 0
-    → Right t (rules (inputs s marks)) → t ≤ 744
+-- what it comes to, from its parts
+pub closes_with : (s : State) (marks : List ℕ) {t : ℕ} → Right t (rules (inputs s marks)) → t ≤ 744
     → {f : Found} {hours store : List ℕ} {c : Kwh} {d : ℕ} {g : Figures} {new : Bool} {r : Record} → OutcomeFound (rules (inputs s marks)) f hours
     → c.0 ≡ capacity_sum marks hours → d ≡ days_in marks
     → g ≡ record { ground = ground_number f.ground; volume = f.volume; capacity = record { 0 = capacity_in c.0 d }; sum = c; days = d }
     → new ≡ (eqb (ground_number f.ground) 1 || eqb (ground_number f.ground) 2) → r ≡ point_after new f.volume.0 s.point
     → store ≡ store_after new hours s.point.date s.store
-    → Does s (closing marks buffer) (record { refusal = 0; after = r; figures = g }) store hours
-unfolding answer leaves buffer_after figures_of hours_out accept closed_with becomes_past
-closed_does s marks buffer e z right few {new = n} found total days figs past after left =
-    let t = is_accepted s (closing marks buffer) e z in
-    let none : refusal s (closing marks buffer) ≡ 0 = sym e ∙ z in
+    → ClosesWith s marks (record { refusal = 0; after = r; figures = g }) store hours
+unfolding closed_with becomes_past
+closes_with s marks right few {new = n} found total days figs past after left =
     let u = rules (inputs s marks) in
     let new : n ≡ becomes_past u = past ∙ rw found.ground in
     record {
-      answered = rw (t, none, ← figures_are u marks _ right few found total days figs, after, new, found.volume);
-      left = left ∙ rw (t, new, found.hours) (store_left u s (omega (arith, right.long)));
-      buffered = rw t found.hours;
+      answered = rw (← figures_are u marks _ right few found total days figs, after, new, found.volume);
+      left = left ∙ rw (new, found.hours) (store_left u s (omega (arith, right.long)));
+      buffered = found.hours;
     }
+
+-- and that is what its contract says
+pub settled_does : (s : State) (marks before : List ℕ) {a : Answer} {store buffer : List ℕ} → 0 ≡ refusal s (closing marks before)
+    → ClosesWith s marks a store buffer → Does s (closing marks before) a store buffer
+unfolding answer leaves buffer_after figures_of hours_out accept is_closing marks_of
+settled_does s marks before e k =
+    let t = is_accepted s (closing marks before) e refl in
+    record { answered = k.answered ∙ rw (t, ← e); left = k.left ∙ rw t; buffered = k.buffered ∙ rw t }

@@ -1,18 +1,20 @@
 // The closing of a month (document 01, 'Closing').
 #![tactic(auto)]
 
-ghost use Rattle.std.specs.Prelude.{◌≡◌};
+ghost use Rattle.std.specs.Prelude.{◌≡◌, length};
 ghost use Rattle.marks.specs.Marks.{survey_of, capacity_in};
 ghost use Rattle.rules.specs.Calls.Call.{closing};
 ghost use Rattle.rules.specs.Grounds.{ground_number};
 ghost use Rattle.model.specs.Model.{state, refusal, Does};
 ghost use Rattle.model.specs.Refused.{number_of};
+ghost use Rattle.model.specs.Settled.{Settled};
+ghost use Rattle.closing.specs.Closes.{ClosesWith};
 
 mod after;
 
 use after::{point_after, store_after};
 use calendar::open_hours;
-use first_ground::ClosingMonth;
+use counts::counts_of;
 use grounds::Found;
 use marks::{Survey, capacity, capacity_sum, survey_marks};
 use model::Answer;
@@ -67,21 +69,20 @@ fn figures_of(found: Found, sum: Kwh, days: u64) -> Figures
     }
 }
 
-// Closes the open month: its hours into the buffer, its figures into the answer, and the next month opens.
-pub fn close(r: Record, store: &mut [u32], marks: &[u8], hours: &mut [u32]) -> Answer
-    ensures { Does (state r store.old) (closing marks.now hours.old) result store.new hours.new }
+// A closing that is accepted: its hours into the buffer, its figures into the answer, and the next month opens.
+fn close_settled(
+    r: Record,
+    store: &mut [u32],
+    marks: &[u8],
+    survey: Survey,
+    hours: &mut [u32],
+) -> Answer
+    requires settled { Settled r store.old marks.now }
+    requires surveyed { survey ≡ survey_of marks.now }
+    requires room { length hours.old ≡ 744 }
+    ensures { ClosesWith (state r store.old) marks.now result store.new hours.new }
 {
-    let survey = survey_marks(marks);
-    if let Err(refusal) = check_surveyed(r, store, marks, survey, hours) {
-        return Answer::refused(refusal, r);
-    }
-    let month = ClosingMonth {
-        point: r,
-        store: &*store,
-        marks,
-        survey,
-    };
-    let found = month.first_ground(hours);
+    let found = counts_of(r, &*store, marks, survey).first_ground(hours);
     let new = found.ground.is_measured();
     let after = point_after(r, new, found.volume);
     store_after(store, new, r.date, hours);
@@ -92,4 +93,15 @@ pub fn close(r: Record, store: &mut [u32], marks: &[u8], hours: &mut [u32]) -> A
         after,
         figures,
     }
+}
+
+// Closes the open month.
+pub fn close(r: Record, store: &mut [u32], marks: &[u8], hours: &mut [u32]) -> Answer
+    ensures { Does (state r store.old) (closing marks.now hours.old) result store.new hours.new }
+{
+    let survey = survey_marks(marks);
+    if let Err(refusal) = check_surveyed(r, store, marks, survey, hours) {
+        return Answer::refused(refusal, r);
+    }
+    close_settled(r, store, marks, survey, hours)
 }

@@ -2,7 +2,8 @@
 #![tactic(auto)]
 
 ghost use Rattle.std.specs.Prelude.{◌≡◌, [], length, ◌≤◌};
-ghost use Rattle.rules.specs.Calls.Call.{failure, admission, denial, permission};
+ghost use Rattle.rules.specs.Calls.Report.{failure, admission, denial, permission};
+ghost use Rattle.rules.specs.Calls.Call.{report};
 ghost use Rattle.model.specs.Model.{state, discarded, after_failure, Does};
 ghost use Rattle.model.specs.Refused.{Gives};
 ghost use Rattle.events.specs.Failures.{reason_number, FindsReason};
@@ -70,7 +71,7 @@ fn after_failure(s: Service, d: Date, reason: Reason) -> Service
 // The reason is the number that C gives, and is judged behind 1 to 3 and 30.
 #[tactic(auto, using(validity::proofs::Laws::fault_most), unfolding(model::proofs::Laws::call_definitions))]
 fn try_fail(r: Record, store: &mut [u32], reason: u32) -> Result<Record, Refusal>
-    ensures { Gives (state r store.old) (failure reason) result store.new }
+    ensures { Gives (state r store.old) (report (failure reason)) result store.new }
 {
     check_anyone(store.len(), r)?;
     refuse_if(r.service.serving != 1, Refusal::OutOfService)?;
@@ -83,14 +84,14 @@ fn try_fail(r: Record, store: &mut [u32], reason: u32) -> Result<Record, Refusal
 // which 31 judges.
 #[tactic(auto, using(model::proofs::Laws::call_does), unfolding(model::proofs::Laws::call_definitions))]
 pub fn fail(r: Record, store: &mut [u32], reason: u32) -> Answer
-    ensures { Does (state r store.old) (failure reason) result store.new [] }
+    ensures { Does (state r store.old) (report (failure reason)) result store.new [] }
 {
     answer_of(try_fail(r, store, reason), r)
 }
 
 #[tactic(auto, unfolding(model::proofs::Laws::call_definitions))]
 fn try_admit(r: Record, store: &[u32]) -> Result<Record, Refusal>
-    ensures { Gives (state r store.now) admission result store.now }
+    ensures { Gives (state r store.now) (report admission) result store.now }
 {
     check_anyone(store.len(), r)?;
     refuse_if(r.service.serving == 1, Refusal::InService)?;
@@ -104,14 +105,14 @@ fn try_admit(r: Record, store: &[u32]) -> Result<Record, Refusal>
 // The billing meter is back in service.
 #[tactic(auto, using(model::proofs::Laws::call_does), unfolding(model::proofs::Laws::call_definitions))]
 pub fn admit(r: Record, store: &[u32]) -> Answer
-    ensures { Does (state r store.now) admission result store.now [] }
+    ensures { Does (state r store.now) (report admission) result store.now [] }
 {
     answer_of(try_admit(r, store), r)
 }
 
 #[tactic(auto, using(validity::proofs::Laws::denials_most), unfolding(model::proofs::Laws::call_definitions))]
 fn try_deny(r: Record, store: &mut [u32]) -> Result<Record, Refusal>
-    ensures { Gives (state r store.old) denial result store.new }
+    ensures { Gives (state r store.old) (report denial) result store.new }
 {
     check_anyone(store.len(), r)?;
     refuse_if(r.service.denials == 2, Refusal::TwoDenials)?;
@@ -130,7 +131,7 @@ fn try_deny(r: Record, store: &mut [u32]) -> Result<Record, Refusal>
 // Access to the meter was denied once more. The second denial discards this month's billing reading.
 #[tactic(auto, using(model::proofs::Laws::call_does), unfolding(model::proofs::Laws::call_definitions))]
 pub fn deny(r: Record, store: &mut [u32]) -> Answer
-    ensures { Does (state r store.old) denial result store.new [] }
+    ensures { Does (state r store.old) (report denial) result store.new [] }
 {
     answer_of(try_deny(r, store), r)
 }
@@ -139,7 +140,7 @@ pub fn deny(r: Record, store: &mut [u32]) -> Answer
 // longer than both.
 #[tactic(auto, unfolding(model::proofs::Laws::call_definitions))]
 fn try_permit(r: Record, store: &[u32]) -> Result<Record, Refusal>
-    ensures { Gives (state r store.now) permission result store.now }
+    ensures { Gives (state r store.now) (report permission) result store.now }
 {
     check_anyone(store.len(), r)?;
     refuse_if(r.service.denials == 0, Refusal::NoDenial)?;
@@ -153,7 +154,7 @@ fn try_permit(r: Record, store: &[u32]) -> Result<Record, Refusal>
 // Access to the meter is given again: no denial counts any more.
 #[tactic(auto, using(model::proofs::Laws::call_does), unfolding(model::proofs::Laws::call_definitions))]
 pub fn permit(r: Record, store: &[u32]) -> Answer
-    ensures { Does (state r store.now) permission result store.now [] }
+    ensures { Does (state r store.now) (report permission) result store.now [] }
 {
     answer_of(try_permit(r, store), r)
 }

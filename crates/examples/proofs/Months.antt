@@ -19,7 +19,7 @@ use Rattle.store.specs.Store.{empty_store}
 use Rattle.rules.specs.Calls.{closing}
 use Rattle.rules.specs.Rules.{evenly, by_weights, by_contract, on_past, on_control, on_billing, rules, becomes_past}
 use Rattle.model.specs.Refusals.{refuse, open_refusal, own_refusal}
-use Rattle.model.specs.Model.{State, measured_in, past_in, inputs, closed_with, accept, refusal, accepted, leaves}
+use Rattle.model.specs.Model.{State, measured_in, past_month, past_in, inputs, closed_with, accept, refusal, accepted, leaves}
 use Rattle.model.specs.Opening.{opens, opened}
 use Rattle.model.specs.Sound.{Sound}
 use Rattle.model.proofs.GoesOn.{opening_sound, call_sound}
@@ -49,7 +49,7 @@ closed s t sound y = record { left = rw y; sound = call_sound s (plainly t) soun
 
 -- what computes
 unfoldable month_definitions : Unit {0}
-unfolding opened kept power_on power_of accept closed_with inputs measured_in past_in rules on_billing on_control on_past by_contract evenly
+unfolding opened kept power_on power_of accept closed_with inputs measured_in past_month past_in rules on_billing on_control on_past by_contract evenly
     by_weights becomes_past
     open_hours month_hours month_days is_month leap_year next_month refuse high crowded unmatched none_above
 month_definitions = tt

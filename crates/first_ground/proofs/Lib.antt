@@ -1,2 +1,2 @@
+pub mod Marks
 pub mod Firsts
-pub mod Laws

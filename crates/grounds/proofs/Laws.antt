@@ -4,51 +4,45 @@ use mathlib.Core.Path.{◌≡◌, refl, ◌∙◌}
 use mathlib.Core.Bool.{Bool, true, false, ◌&&◌}
 use mathlib.Core.List.{List}
 use native.Mathlib.Omega.{arith}
-use borrow.Author.Tests.{le-leb, eq-eqb}
+use borrow.Author.Tests.{le-leb}
 use lib.Dec.{ltb}
-use lib.ListN.{length, take, drop, replicate, length-drop, length-replicate, get_or-replicate}
+use lib.ListN.{length, take, replicate, length-replicate, get_or-replicate}
 use lib.Seq.{get_or-take, length-take-le}
-use Rattle.numbers.specs.Lists.{tab, sum_to, sum, at, zeros, Filled}
+use Rattle.numbers.specs.Lists.{tab, sum_to, sum, at, zeros, padded, none_above, Filled}
 use Rattle.numbers.proofs.Laws.{length_tab, sum_same, sum_at, sum_most, cond_most, none_above_at, filled_padded}
 use Rattle.units.specs.Volumes.{greatest_volume_read, greatest_month_volume}
 use Rattle.sharing.specs.Shares.{ones, one, within, every, shares, shares_over, past_at, stretched, chosen_at, month_fits, weights_fit, Shared}
-use Rattle.store.specs.Store.{row_part, row_fits}
 use Rattle.sharing.proofs.Laws.{spread_same}
 use Rattle.sharing.proofs.Rule.{chosen_same}
 use Rattle.power.specs.declared.Cable.{Cable}
 use Rattle.power.specs.Power.{formula_in, cable_fits}
 use Rattle.power.proofs.Laws.{formula_most, formula_in_lem}
-use Rattle.store.specs.Store.{as_row, read_from, store_fits}
-use Rattle.store.proofs.Laws.{at_row, read_from_lem, row_part_fits}
+use Rattle.store.specs.Store.{as_row}
+use Rattle.store.proofs.Laws.{at_row}
 use Rattle.rules.specs.declared.Ground.{Ground}
 use Rattle.rules.specs.Grounds.{ground_number}
-use Rattle.grounds.specs.Found.{HoursFound, BuffersFit}
+use Rattle.grounds.specs.Found.{HoursFound}
 
--- the hours of a row, summed
+-- hours in a row, summed
 sum_row : (hs : List ℕ) (t : ℕ) → length hs ≡ t → sum_to (at (as_row hs)) t ≡ sum hs
 sum_row hs t e = sum_same t (at (as_row hs)) (at hs) (λ h l. at_row hs h) ∙ rw (sum_at hs, e)
 
 -- as read
-pub read_found : (g : Ground) (store : List ℕ) (r t : ℕ) (buffer : List ℕ) {after : List ℕ} {v : ℕ} → BuffersFit store buffer t → r ≤ 13
-    → after ≡ read_from store r t buffer → v ≡ sum_to (at after) t
-    → HoursFound (ground_number g) (sum (row_part store r t)) (row_part store r t) (record { ground = g; volume = record { 0 = v } }) after
-read_found g store r t buffer l row e f =
-    let long : length (row_part store r t)
-    ≡ t = length-take-le t (drop (744 * r) store) (rw (length-drop (744 * r) store) (omega (arith, l.words, l.few))) in
-    let filled = e ∙ rw l.room at (read_from_lem store r t buffer l.words row l.few (omega (arith, l.room, l.few))) in
-    record { ground = refl; volume = f ∙ rw filled (sum_row (row_part store r t) t long); hours = filled }
+pub read_found : (g : Ground) (read buffer : List ℕ) {after : List ℕ} {v : ℕ} → length buffer ≡ 744 → after ≡ padded (length buffer) read
+    → v ≡ sum_to (at after) (length read) → HoursFound (ground_number g) (sum read) read (record { ground = g; volume = record { 0 = v } }) after
+read_found g read buffer room e f =
+    let filled = rw room at e in
+    record { ground = refl; volume = f ∙ rw filled (sum_row read (length read) refl); hours = filled }
 
 -- as the past's
-pub past_found : (g : Ground) (store : List ℕ) (r past t : ℕ) (buffer : List ℕ) {part cleared after : List ℕ} {v : ℕ} → BuffersFit store buffer t
-    → part ≡ row_part store r past → cleared ≡ zeros (length buffer) → Filled (past_at part) cleared after t
-    → v ≡ sum_to (at after) t
-    → HoursFound (ground_number g) (sum (stretched (row_part store r past) t)) (stretched (row_part store r past) t)
-    (record { ground = g; volume = record { 0 = v } }) after
+pub past_found : (g : Ground) (past : List ℕ) (t : ℕ) (buffer : List ℕ) {cleared after : List ℕ} {v : ℕ} → length buffer ≡ 744
+    → cleared ≡ zeros (length buffer) → Filled (past_at past) cleared after t → v ≡ sum_to (at after) t
+    → HoursFound (ground_number g) (sum (stretched past t)) (stretched past t) (record { ground = g; volume = record { 0 = v } }) after
 unfolding stretched
-past_found g store r past t buffer l p e filled f =
-    let w = past_at (row_part store r past) in
-    let made = filled_padded (length buffer) (rw p at filled) e in
-    let hours = rw l.room at made in
+past_found g past t buffer room e filled f =
+    let w = past_at past in
+    let made = filled_padded (length buffer) filled e in
+    let hours = rw room at made in
     record { ground = refl; volume = f ∙ rw hours (sum_row (tab t w) t (length_tab t w)); hours = hours }
 
 -- a sharing whose numbers fit
@@ -60,8 +54,7 @@ unfolding month_fits
 month_there v t room small some few e =
     rw (le-leb v greatest_volume_read small, le-leb 1 t some, le-leb t 744 few, le-leb t room (omega arith))
 
--- a sharing over every hour
--- the flags that the code lends
+-- A SHARING OVER EVERY HOUR: the flags that the code lends
 abbrev pub every_hour : ℕ → List Bool
 every_hour t = take t (replicate 744 true)
 
@@ -78,49 +71,39 @@ unfolding shares_over
 over_every v t ws e few =
     spread_same v (length ws) _ _ (chosen_same (length ws) (chosen_at (every_hour t)) every (at ws) (λ h l. all_chosen t h few (omega arith)))
 
--- the weights of a row are small
-weights_small : (store : List ℕ) (r past t : ℕ) (chosen : ℕ → Bool) → store_fits store ≡ true → t ≤ 744
-    → weights_fit (sum_to (within chosen (past_at (row_part store r past))) t) ≡ true
+-- the weights of a past are small
+weights_small : (past : List ℕ) (t : ℕ) (chosen : ℕ → Bool) → none_above 3000000 past ≡ true → t ≤ 744
+    → weights_fit (sum_to (within chosen (past_at past)) t) ≡ true
 unfolding weights_fit
-weights_small store r past t chosen fits few =
-    let part = row_part store r past in
-    let each = none_above_at 3000000 part (row_part_fits r past store fits) in
+weights_small past t chosen fits few =
+    let each = none_above_at 3000000 past fits in
     let most =
-    sum_most (within chosen (past_at part)) 3000000 t
-    (λ h l. cond_most (chosen h) (cond_most (ltb h (length part)) (each h) (each (h - 168))) (omega arith)) in
-    le-leb (sum_to (within chosen (past_at part)) t) greatest_month_volume (omega (arith, most))
+    sum_most (within chosen (past_at past)) 3000000 t
+    (λ h l. cond_most (chosen h) (cond_most (ltb h (length past)) (each h) (each (h - 168))) (omega arith)) in
+    le-leb (sum_to (within chosen (past_at past)) t) greatest_month_volume (omega (arith, most))
 
 -- by the past's weights, whose numbers fit
-module _ {store : List ℕ} {v r past t : ℕ} {buffer : List ℕ} (l : BuffersFit store buffer t) (row : r ≤ 13) (short : past ≤ 744)
-    (fits : store_fits store ≡ true) (small : v ≤ greatest_volume_read) where
-  abbrev pub every_fit : Bool
-  every_fit =
-      row_fits (length store) r past
-      && (month_fits v (length (every_hour t)) (length buffer)
-      && weights_fit (sum_to (within (chosen_at (every_hour t)) (past_at (row_part store r past))) (length (every_hour t))))
+abbrev pub every_fit : ℕ → ℕ → List ℕ → List ℕ → Bool
+every_fit v t past buffer =
+    month_fits v (length (every_hour t)) (length buffer)
+    && weights_fit (sum_to (within (chosen_at (every_hour t)) (past_at past)) (length (every_hour t)))
 
-  pub shares_fit : every_fit ≡ true
-  unfolding row_fits
+module _ (past : List ℕ) (v t : ℕ) (buffer : List ℕ) (small : v ≤ greatest_volume_read) (fits : none_above 3000000 past ≡ true)
+    (some : 1 ≤ t) (few : t ≤ 744) (room : length buffer ≡ 744) where
+  pub shares_fit : every_fit v t past buffer ≡ true
   shares_fit =
-      rw (
-        length_every t l.few,
-        eq-eqb (length store) 10416 l.words,
-        le-leb r 13 row,
-        le-leb past 744 short,
-        month_there v t (length buffer) small l.some l.few l.room,
-      )
-      (weights_small store r past t (chosen_at (every_hour t)) fits l.few)
+      rw (length_every t few, month_there v t (length buffer) small some few room) (weights_small past t (chosen_at (every_hour t)) fits few)
 
   pub shares_found : (g : Ground) {after : List ℕ} {done : Bool}
-      → Shared every_fit (shares_over v (chosen_at (every_hour t)) (stretched (row_part store r past) (length (every_hour t)))) buffer after done
-      → HoursFound (ground_number g) v (shares v (stretched (row_part store r past) t)) (record { ground = g; volume = record { 0 = v } }) after
+      → Shared (every_fit v t past buffer) (shares_over v (chosen_at (every_hour t)) (stretched past (length (every_hour t)))) buffer after done
+      → HoursFound (ground_number g) v (shares v (stretched past t)) (record { ground = g; volume = record { 0 = v } }) after
   unfolding stretched
   shares_found g s =
-      let w = past_at (row_part store r past) in
+      let w = past_at past in
       record {
         ground = refl;
         volume = refl;
-        hours = filled_by s shares_fit l.room ∙ rw (length_every t l.few, over_every v t (tab t w) (length_tab t w) l.few);
+        hours = filled_by s shares_fit room ∙ rw (length_every t few, over_every v t (tab t w) (length_tab t w) few);
       }
 
 -- by the peak rule, or any sharing of a volume that fits a month

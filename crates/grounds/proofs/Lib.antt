@@ -1,2 +1,1 @@
 pub mod Laws
-pub mod PastMonths

@@ -1,32 +1,29 @@
 // How hours are found: as read, as the past's, by the past's weights, by the peak rule, evenly. Each function puts the
 // hours into the buffer, with 0 from their end on.
 ghost use Rattle.std.specs.Prelude.{◌≡◌, true, ◌≤◌, length};
-ghost use Rattle.numbers.specs.Lists.{sum, Filled};
+ghost use Rattle.numbers.specs.Lists.{sum, none_above, Filled};
 ghost use Rattle.units.specs.Volumes.{greatest_volume_read};
 ghost use Rattle.sharing.specs.Shares.{ones, shares, past_at, stretched};
-ghost use Rattle.store.specs.Store.{row_part};
 ghost use Rattle.marks.specs.Peak.{peak_rule};
-ghost use Rattle.store.specs.Store.{store_fits};
 ghost use Rattle.rules.specs.Grounds.{ground_number};
-ghost use Rattle.grounds.specs.Found.{HoursFound, BuffersFit};
+ghost use Rattle.grounds.specs.Found.{HoursFound};
 
-use super::past::share_by_row;
-use super::{Found, PastMonth};
+use super::Found;
 use marks::peak::peak_rule;
 use numbers::{clear, sum_first};
 use rules::Ground;
-use sharing::share_evenly;
 use sharing::weights::past_at;
-use store::{read_row, row_hours};
+use sharing::{share_by_past, share_evenly};
+use store::copy_row;
 use units::{Kw, Kwh};
 
-// The hours of a row as read; the volume is their sum. Grounds 1 and 3.
-pub fn as_read(ground: Ground, store: &[u32], row: usize, t: usize, hours: &mut [u32]) -> Found
-    requires { BuffersFit store.now hours.old t × (row ≤ 13) }
-    ensures { HoursFound (ground_number ground) (sum (row_part store.now row t)) (row_part store.now row t) result hours.new }
+// The hours as a meter read them; the volume is their sum. Grounds 1 and 3.
+pub fn as_read(ground: Ground, read: &[u32], hours: &mut [u32]) -> Found
+    requires { (length read.now ≤ 744) × (length hours.old ≡ 744) }
+    ensures { HoursFound (ground_number ground) (sum read.now) read.now result hours.new }
 {
-    read_row(store, row, t, hours);
-    let volume = Kwh(sum_first(hours, t));
+    copy_row(hours, read);
+    let volume = Kwh(sum_first(hours, read.len()));
     Found { ground, volume }
 }
 
@@ -42,35 +39,25 @@ fn copy_past(past: &[u32], t: usize, hours: &mut [u32])
     }
 }
 
-// The hours of the past for a month of t hours; the volume is their sum. Ground 7.
-pub fn as_past(ground: Ground, store: &[u32], past: PastMonth, t: usize, hours: &mut [u32]) -> Found
-    requires { BuffersFit store.now hours.old t }
-    ensures { HoursFound (ground_number ground) (sum (stretched (row_part store.now past.row past.hours) t))
-        (stretched (row_part store.now past.row past.hours) t)
-        result hours.new }
+// The hours of the past for t hours; the volume is their sum. Ground 7.
+pub fn as_past(ground: Ground, past: &[u32], t: usize, hours: &mut [u32]) -> Found
+    requires { (t ≤ 744) × (length hours.old ≡ 744) }
+    ensures { HoursFound (ground_number ground) (sum (stretched past.now t)) (stretched past.now t) result hours.new }
 {
     clear(hours);
-    copy_past(row_hours(store, past.row, past.hours), t, hours);
+    copy_past(past, t, hours);
     let volume = Kwh(sum_first(hours, t));
     Found { ground, volume }
 }
 
-// A volume shared by the past over a month of t hours. Grounds 4 and 6.
-pub fn by_past(
-    ground: Ground,
-    volume: Kwh,
-    store: &[u32],
-    past: PastMonth,
-    t: usize,
-    hours: &mut [u32],
-) -> Found
-    requires buffers_fit { BuffersFit store.now hours.old t }
-    requires store_value { (store_fits store.now ≡ true) × (volume.0 ≤ greatest_volume_read) }
-    ensures { HoursFound (ground_number ground) volume.0 (shares volume.0 (stretched (row_part store.now past.row past.hours) t)) result
-        hours.new }
+// A volume shared by the past over t hours. Grounds 4 and 6.
+pub fn by_past(ground: Ground, volume: Kwh, past: &[u32], t: usize, hours: &mut [u32]) -> Found
+    requires fits { (volume.0 ≤ greatest_volume_read) × (none_above 3000000 past.now ≡ true) }
+    requires room { (1 ≤ t) × (t ≤ 744) × (length hours.old ≡ 744) }
+    ensures { HoursFound (ground_number ground) volume.0 (shares volume.0 (stretched past.now t)) result hours.new }
 {
     let every = [true; 744];
-    share_by_row(volume, store, past.row, past.hours, &every[..t], hours).unwrap();
+    share_by_past(volume, past, &every[..t], hours).unwrap();
     Found { ground, volume }
 }
 
@@ -83,7 +70,7 @@ pub fn by_peaks(ground: Ground, volume: Kwh, power: Kw, marks: &[u8], hours: &mu
     Found { ground, volume }
 }
 
-// A volume evenly over a month of t hours. Grounds 8 and 9.
+// A volume evenly over t hours. Grounds 8 and 9.
 pub(crate) fn evenly(ground: Ground, volume: Kwh, t: usize, hours: &mut [u32]) -> Found
     requires { (volume.0 ≤ greatest_volume_read) × (1 ≤ t) × (t ≤ 744) × (length hours.old ≡ 744) }
     ensures { HoursFound (ground_number ground) volume.0 (shares volume.0 (ones t)) result hours.new }

@@ -1,7 +1,8 @@
-// The nine grounds of a closing (document 01, 'Closing'), by how their hours are found. Each function puts its hours into the
-// buffer. Which of them a month is closed on is decided where it is closed. Store, buffer and T stand side by side in the contracts:
-// a struct would hold the buffer that the caller reads behind the call, and would be taken apart there. So their limits are clauses,
-// and that of a volume too: a `Kwh` is also a month's volume and a total, which are greater.
+// The nine grounds of a closing (document 01, 'Closing'), by how their hours are found. Each function takes what it needs, the hours
+// that were read or the past's, the marks and T, and puts its hours into the buffer; so it works on a month or on any of its days.
+// Which of them a month is closed on is decided where it is closed. The buffer stands beside the rest in the contracts: a struct would
+// hold the buffer that the caller reads behind the call, and would be taken apart there. So their limits are clauses, and that of a
+// volume too: a `Kwh` is also a month's volume and a total, which are greater.
 #![tactic(auto)]
 
 ghost use Rattle.std.specs.Prelude.{◌≡◌, true, ◌*◌, ◌≤◌, length};
@@ -10,11 +11,8 @@ ghost use Rattle.power.specs.Power.{formula, cable_fits};
 ghost use Rattle.grounds.specs.Found.{HoursFound};
 
 pub mod hours;
-pub mod past;
-mod past_month;
 
 use hours::evenly;
-pub use past_month::PastMonth;
 use power::Cable;
 use rules::Ground;
 use units::{Kw, Kwh, energy};

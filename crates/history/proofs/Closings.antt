@@ -16,32 +16,30 @@ use Rattle.calendar.specs.Calendar.{is_month, open_hours, next_month}
 use Rattle.calendar.proofs.Laws.{open_high}
 use Rattle.contract.specs.Contract.{kept}
 use Rattle.record.specs.Record.{kwh, no_readings}
-use Rattle.rules.specs.Calls.{Opening, Call, billing_hours, control_hours, billing_volume, control_volume, neighbour, failure, admission, denial}
-use Rattle.rules.specs.Calls.{permission, closing}
+use Rattle.rules.specs.Calls.{Opening, MeterReading, billing_hours, control_hours, billing_volume, control_volume, neighbour}
+use Rattle.rules.specs.Calls.{Report, failure, admission, denial, permission, Call, read, report, closing}
 use Rattle.rules.specs.Rules.{Outcome, rules, becomes_past}
 use Rattle.rules.specs.Right.{Right}
-use Rattle.rules.proofs.Laws.{rules_right}
 use Rattle.model.specs.Model.{State, row_of, inputs, run_after, closed_with, accept, accepted}
-use Rattle.model.proofs.Keeps.{call_passed, open_month}
-use Rattle.model.proofs.Closes.{inputs_fit, row_few}
+use Rattle.model.proofs.Closes.{settled, closing_right, row_few}
 use Rattle.model.proofs.GoesOn.{call_sound}
 use Rattle.history.specs.Book.{Book, month_of, denials_of, run_of, volumes, inputs_of}
 use Rattle.history.proofs.Rows.{Holds, replaced_at, holds_same, holds_put, set_tab}
 use Rattle.history.proofs.View.{serving_of, fault_of, latest_of, year_in, contents, point_of, seen, look_backs, OfItsMeter, MonthsClosed, Shows, as_seen}
 use Rattle.history.proofs.Inputs.{inputs_same}
-use Rattle.history.proofs.Steps.{entry, step_billing_hours, step_control_hours, step_billing_volume, step_control_volume, step_neighbour}
+use Rattle.history.proofs.Steps.{entry, Steps, step_billing_hours, step_control_hours, step_billing_volume, step_control_volume, step_neighbour}
 use Rattle.history.proofs.Steps.{step_failure, step_admission, step_denial, step_permission}
 
 module _ (o : Opening) (es : Book) (store : List ℕ) (h : Shows o es (seen o es store)) where
   module _ (marks buffer : List ℕ) (t : accepted (seen o es store) (closing marks buffer) ≡ true) where
     month : is_month (month_of o es) ≡ true
     unfolding point_of
-    month = open_month (point_of o es) h.sound.fits.record_fits (call_passed (seen o es store) (closing marks buffer) t).not_over
+    month = (settled (seen o es store) marks buffer t).month
 
     -- what the book works out is right
     pub work_right : Right (open_hours (month_of o es)) (rules (inputs_of o es marks))
-    unfolding inputs_of
-    work_right = rw (inputs_same o es store h marks) at (rules_right (inputs (seen o es store) marks) (inputs_fit (seen o es store) marks buffer t))
+    unfolding point_of
+    work_right = rw (inputs_same o es store h marks) at (closing_right (settled (seen o es store) marks buffer t))
 
     -- the run, the rows' years and the total
     run_after_lem : run_after (becomes_past (rules (inputs_of o es marks))) (run_of o es) ≡ run_of o (entry o es (closing marks buffer) ∷ es)
@@ -118,16 +116,22 @@ module _ (o : Opening) (es : Book) (store : List ℕ) (h : Shows o es (seen o es
         }
 
   -- EVERY CALL
-  step_seen : (c : Call) → accepted (seen o es store) c ≡ true → Shows o (entry o es c ∷ es) (accept (seen o es store) c)
-  step_seen (billing_hours hs) t = step_billing_hours o es store h hs t
-  step_seen (control_hours hs) t = step_control_hours o es store h hs t
-  step_seen (billing_volume v) t = step_billing_volume o es store h v t
-  step_seen (control_volume v) t = step_control_volume o es store h v t
-  step_seen (neighbour source v) t = step_neighbour o es store h source v t
-  step_seen (failure reason) t = step_failure o es store h reason t
-  step_seen admission t = step_admission o es store h t
-  step_seen denial t = step_denial o es store h t
-  step_seen permission t = step_permission o es store h t
+  step_reading : (x : MeterReading) → Steps o es store h (read x)
+  step_reading (billing_hours hs) t = step_billing_hours o es store h hs t
+  step_reading (control_hours hs) t = step_control_hours o es store h hs t
+  step_reading (billing_volume v) t = step_billing_volume o es store h v t
+  step_reading (control_volume v) t = step_control_volume o es store h v t
+  step_reading (neighbour source v) t = step_neighbour o es store h source v t
+
+  step_report : (x : Report) → Steps o es store h (report x)
+  step_report (failure reason) t = step_failure o es store h reason t
+  step_report admission t = step_admission o es store h t
+  step_report denial t = step_denial o es store h t
+  step_report permission t = step_permission o es store h t
+
+  step_seen : (c : Call) → Steps o es store h c
+  step_seen (read x) t = step_reading x t
+  step_seen (report x) t = step_report x t
   step_seen (closing marks buffer) t = step_closing marks buffer t
 
 pub step : (o : Opening) (es : Book) (s : State) (c : Call) → Shows o es s → accepted s c ≡ true → Shows o (entry o es c ∷ es) (accept s c)

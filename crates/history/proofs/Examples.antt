@@ -10,8 +10,8 @@ use Rattle.numbers.specs.Rounding.{half_up}
 use Rattle.sharing.specs.Shares.{portion, taken, spread, shares_over, stretched}
 use Rattle.power.specs.Power.{shared_power, power_on}
 use Rattle.contract.specs.Contract.{no_cable, kept, power_of}
-use Rattle.rules.specs.Calls.{Opening, Call, billing_hours, control_hours, billing_volume, control_volume, neighbour, failure, admission, denial}
-use Rattle.rules.specs.Calls.{permission, closing}
+use Rattle.rules.specs.Calls.{Opening, MeterReading, billing_hours, control_hours, billing_volume, control_volume, neighbour}
+use Rattle.rules.specs.Calls.{Report, failure, admission, denial, permission, Call, read, report, closing}
 use Rattle.rules.specs.Rules.{missing, hourly, whole, counted_of, neighbour_of, as_read, by_weights, by_peaks}
 use Rattle.rules.specs.Rules.{evenly, by_contract, on_past, on_control, on_billing, rules, becomes_past}
 use Rattle.history.specs.Book.{Entry, Book, billing, control, neighbouring, failed, admitted, denied, permitted, closed, of_kind, is_from}
@@ -34,9 +34,12 @@ o =
       place = 0;
     }
 
--- entries: a call that closes no month, and a month closed on ground g with the hours hs
-abbrev called : Call → Entry
-called c = record { call = c; out = nothing }
+-- entries: a reading, a report, and a month closed on ground g with the hours hs
+abbrev called : MeterReading → Entry
+called x = record { call = read x; out = nothing }
+
+abbrev reported : Report → Entry
+reported x = record { call = report x; out = nothing }
 
 abbrev shut : ℕ → List ℕ → Entry
 shut g hs = record { call = closing [] []; out = record { ground = g; hours = hs; exact = λ h. record { top = 0; bottom = 1 }; volume = sum hs } }
@@ -52,34 +55,35 @@ kinds :
     × (of_kind billing (called (control_volume 0)) ≡ false)
     × (of_kind control (called (control_hours [])) ≡ true) × (of_kind control (called (neighbour 2 0)) ≡ false)
     × (of_kind neighbouring (called (neighbour 2 0)) ≡ true)
-    × (of_kind failed (called (failure 1)) ≡ true) × (of_kind failed (called denial) ≡ false) × (of_kind admitted (called admission) ≡ true)
-    × (of_kind permitted (called permission) ≡ true) × (of_kind denied (called permission) ≡ false)
-    × (of_kind closed (shut 8 []) ≡ true) × (of_kind closed (called denial) ≡ false)
+    × (of_kind failed (reported (failure 1)) ≡ true) × (of_kind failed (reported denial) ≡ false) × (of_kind admitted (reported admission) ≡ true)
+    × (of_kind permitted (reported permission) ≡ true) × (of_kind denied (reported permission) ≡ false)
+    × (of_kind closed (shut 8 []) ≡ true) × (of_kind closed (reported denial) ≡ false)
 unfolding book_definitions
 kinds = (refl, refl, refl, refl, refl, refl, refl, refl, refl, refl, refl, refl, refl)
 
 -- a neighbour reading of one source is not of the other; reasons 1 and 2 are faults, and a neighbour's source is none
 arguments :
-    (is_from 1 (called (neighbour 1 7)) ≡ true) × (is_from 2 (called (neighbour 1 7)) ≡ false) × (is_from 1 (called (failure 1)) ≡ false)
-    × (is_faulty (called (failure 1)) ≡ true) × (is_faulty (called (failure 2)) ≡ true) × (is_faulty (called (failure 3)) ≡ false)
-    × (is_faulty (called (failure 4)) ≡ false) × (is_faulty (called (neighbour 1 7)) ≡ false)
+    (is_from 1 (called (neighbour 1 7)) ≡ true) × (is_from 2 (called (neighbour 1 7)) ≡ false) × (is_from 1 (reported (failure 1)) ≡ false)
+    × (is_faulty (reported (failure 1)) ≡ true) × (is_faulty (reported (failure 2)) ≡ true) × (is_faulty (reported (failure 3)) ≡ false)
+    × (is_faulty (reported (failure 4)) ≡ false) × (is_faulty (called (neighbour 1 7)) ≡ false)
 unfolding book_definitions
 arguments = (refl, refl, refl, refl, refl, refl, refl, refl)
 
 -- MONTHS: the opening's, plus one for each closing and for nothing else
 months :
-    (month_of o [] ≡ record { year = 2023; month = 1 }) × (month_of o (called denial ∷ called (failure 1) ∷ []) ≡ record { year = 2023; month = 1 })
-    × (month_of o (called denial ∷ shut 1 [] ∷ called (failure 1) ∷ shut 8 [] ∷ []) ≡ record { year = 2023; month = 3 })
+    (month_of o [] ≡ record { year = 2023; month = 1 })
+    × (month_of o (reported denial ∷ reported (failure 1) ∷ []) ≡ record { year = 2023; month = 1 })
+    × (month_of o (reported denial ∷ shut 1 [] ∷ reported (failure 1) ∷ shut 8 [] ∷ []) ≡ record { year = 2023; month = 3 })
     × (month_of o (estimated 11 []) ≡ record { year = 2023; month = 12 }) × (month_of o (estimated 12 []) ≡ record { year = 2024; month = 1 })
 unfolding book_definitions
 months = (refl, refl, refl, refl, refl)
 
 -- DENIALS: since the last permission, over months; an admission ends none
 denials :
-    (denials_of [] ≡ 0) × (denials_of (called denial ∷ []) ≡ 1)
-    × (denials_of (called denial ∷ shut 8 [] ∷ called admission ∷ called denial ∷ []) ≡ 2)
-    × (denials_of (called permission ∷ called denial ∷ called denial ∷ []) ≡ 0)
-    × (denials_of (called denial ∷ called permission ∷ called denial ∷ []) ≡ 1)
+    (denials_of [] ≡ 0) × (denials_of (reported denial ∷ []) ≡ 1)
+    × (denials_of (reported denial ∷ shut 8 [] ∷ reported admission ∷ reported denial ∷ []) ≡ 2)
+    × (denials_of (reported permission ∷ reported denial ∷ reported denial ∷ []) ≡ 0)
+    × (denials_of (reported denial ∷ reported permission ∷ reported denial ∷ []) ≡ 1)
 unfolding book_definitions
 denials = (refl, refl, refl, refl, refl)
 
@@ -89,37 +93,37 @@ readings :
     × (billing_of (called (billing_hours (4 ∷ [])) ∷ []) ≡ hourly (4 ∷ []))
     × (billing_of (shut 2 [] ∷ called (billing_volume 5) ∷ []) ≡ missing)
     × (billing_of (called (control_volume 6) ∷ called (neighbour 1 7) ∷ []) ≡ missing)
-    × (billing_of (called (billing_volume 9) ∷ called admission ∷ called (failure 3) ∷ called (billing_volume 5) ∷ []) ≡ whole 9)
+    × (billing_of (called (billing_volume 9) ∷ reported admission ∷ reported (failure 3) ∷ called (billing_volume 5) ∷ []) ≡ whole 9)
 unfolding book_definitions
 readings = (refl, refl, refl, refl, refl, refl)
 
 -- a later failure of any reason discards it, an admission, a permission and the first denial do not
 discarded :
-    (billing_of (called (failure 1) ∷ called (billing_volume 5) ∷ []) ≡ missing)
-    × (billing_of (called admission ∷ called (failure 4) ∷ called (billing_volume 5) ∷ []) ≡ missing)
-    × (billing_of (called denial ∷ called (billing_volume 5) ∷ []) ≡ whole 5)
-    × (billing_of (called permission ∷ called (billing_volume 5) ∷ called denial ∷ []) ≡ whole 5)
+    (billing_of (reported (failure 1) ∷ called (billing_volume 5) ∷ []) ≡ missing)
+    × (billing_of (reported admission ∷ reported (failure 4) ∷ called (billing_volume 5) ∷ []) ≡ missing)
+    × (billing_of (reported denial ∷ called (billing_volume 5) ∷ []) ≡ whole 5)
+    × (billing_of (reported permission ∷ called (billing_volume 5) ∷ reported denial ∷ []) ≡ whole 5)
 unfolding book_definitions
 discarded = (refl, refl, refl, refl)
 
 -- the second denial discards it, wherever the first stands and whatever follows; after a permission it is the first again
 second_denial :
-    (discards (called denial) [] ≡ false) × (discards (called denial) (called denial ∷ []) ≡ true)
-    × (discards (called permission) (called denial ∷ []) ≡ false)
-    × (billing_of (called denial ∷ called (billing_volume 5) ∷ called denial ∷ []) ≡ missing)
-    × (billing_of (called denial ∷ called (billing_volume 5) ∷ shut 8 [] ∷ called denial ∷ []) ≡ missing)
-    × (billing_of (called permission ∷ called denial ∷ called denial ∷ called (billing_volume 5) ∷ []) ≡ missing)
-    × (billing_of (called denial ∷ called permission ∷ called denial ∷ called (billing_volume 5) ∷ []) ≡ whole 5)
+    (discards (reported denial) [] ≡ false) × (discards (reported denial) (reported denial ∷ []) ≡ true)
+    × (discards (reported permission) (reported denial ∷ []) ≡ false)
+    × (billing_of (reported denial ∷ called (billing_volume 5) ∷ reported denial ∷ []) ≡ missing)
+    × (billing_of (reported denial ∷ called (billing_volume 5) ∷ shut 8 [] ∷ reported denial ∷ []) ≡ missing)
+    × (billing_of (reported permission ∷ reported denial ∷ reported denial ∷ called (billing_volume 5) ∷ []) ≡ missing)
+    × (billing_of (reported denial ∷ reported permission ∷ reported denial ∷ called (billing_volume 5) ∷ []) ≡ whole 5)
 unfolding book_definitions
 second_denial = (refl, refl, refl, refl, refl, refl, refl)
 
 -- CONTROL AND NEIGHBOUR READINGS: this month's, which nothing discards
 others :
-    (this_months (of_kind control) (called (failure 1) ∷ called denial ∷ called denial ∷ called (control_volume 6) ∷ []) ≡ whole 6)
+    (this_months (of_kind control) (reported (failure 1) ∷ reported denial ∷ reported denial ∷ called (control_volume 6) ∷ []) ≡ whole 6)
     × (this_months (of_kind control) (called (control_hours (2 ∷ [])) ∷ []) ≡ hourly (2 ∷ []))
     × (this_months (of_kind control) (called (billing_volume 5) ∷ []) ≡ missing)
     × (this_months (of_kind control) (shut 4 [] ∷ called (control_volume 6) ∷ []) ≡ missing)
-    × (source_of 1 (called (failure 1) ∷ called (neighbour 1 7) ∷ []) ≡ Some 7) × (source_of 2 (called (neighbour 1 7) ∷ []) ≡ None)
+    × (source_of 1 (reported (failure 1) ∷ called (neighbour 1 7) ∷ []) ≡ Some 7) × (source_of 2 (called (neighbour 1 7) ∷ []) ≡ None)
     × (source_of 1 (shut 8 [] ∷ called (neighbour 1 7) ∷ []) ≡ None)
 unfolding book_definitions
 others = (refl, refl, refl, refl, refl, refl, refl)
@@ -136,19 +140,20 @@ neighbours = (refl, refl, refl, refl, refl)
 
 -- REPEATS: at 12 months and in the same month, not at 13; of reasons 1 and 2 only, both of them
 repeats :
-    (is_repeat o (called (failure 1)) (estimated 12 (called (failure 2) ∷ [])) ≡ true)
-    × (is_repeat o (called (failure 1)) (estimated 13 (called (failure 2) ∷ [])) ≡ false)
-    × (is_repeat o (called (failure 2)) (called admission ∷ called (failure 1) ∷ []) ≡ true) × (is_repeat o (called (failure 1)) [] ≡ false)
-    × (is_repeat o (called (failure 3)) (called (failure 1) ∷ []) ≡ false) × (is_repeat o (called (failure 1)) (called (failure 4) ∷ []) ≡ false)
+    (is_repeat o (reported (failure 1)) (estimated 12 (reported (failure 2) ∷ [])) ≡ true)
+    × (is_repeat o (reported (failure 1)) (estimated 13 (reported (failure 2) ∷ [])) ≡ false)
+    × (is_repeat o (reported (failure 2)) (reported admission ∷ reported (failure 1) ∷ []) ≡ true) × (is_repeat o (reported (failure 1)) [] ≡ false)
+    × (is_repeat o (reported (failure 3)) (reported (failure 1) ∷ []) ≡ false)
+    × (is_repeat o (reported (failure 1)) (reported (failure 4) ∷ []) ≡ false)
 unfolding book_definitions
 repeats = (refl, refl, refl, refl, refl, refl)
 
 -- any earlier fault serves: one behind failures that are none, one that was a repeat, and one that was not
 any_fault :
-    (is_repeat o (called (failure 1)) (called admission ∷ called (failure 3) ∷ estimated 6 (called (failure 2) ∷ [])) ≡ true)
-    × (is_repeat o (called (failure 1)) (estimated 10 (called (failure 1) ∷ estimated 10 (called (failure 1) ∷ []))) ≡ true)
-    × (is_repeat o (called (failure 1)) (estimated 10 (called (failure 1) ∷ estimated 20 (called (failure 1) ∷ []))) ≡ true)
-    × (is_repeat o (called (failure 1)) (estimated 20 (called (failure 1) ∷ estimated 20 (called (failure 1) ∷ []))) ≡ false)
+    (is_repeat o (reported (failure 1)) (reported admission ∷ reported (failure 3) ∷ estimated 6 (reported (failure 2) ∷ [])) ≡ true)
+    × (is_repeat o (reported (failure 1)) (estimated 10 (reported (failure 1) ∷ estimated 10 (reported (failure 1) ∷ []))) ≡ true)
+    × (is_repeat o (reported (failure 1)) (estimated 10 (reported (failure 1) ∷ estimated 20 (reported (failure 1) ∷ []))) ≡ true)
+    × (is_repeat o (reported (failure 1)) (estimated 20 (reported (failure 1) ∷ estimated 20 (reported (failure 1) ∷ []))) ≡ false)
 unfolding book_definitions
 any_fault = (refl, refl, refl, refl)
 
@@ -162,18 +167,18 @@ metered = (refl, refl, refl, refl, refl)
 runs :
     (run_of o [] ≡ 0) × (run_of o (estimated 5 []) ≡ 5) × (run_of o (shut 1 [] ∷ estimated 5 []) ≡ 0)
     × (run_of o (estimated 2 (shut 2 [] ∷ estimated 5 [])) ≡ 2) × (run_of o (shut 3 [] ∷ estimated 5 []) ≡ 6)
-    × (run_of o (called permission ∷ called denial ∷ estimated 5 []) ≡ 5)
-    × (run_of o (called admission ∷ called (failure 3) ∷ estimated 5 []) ≡ 5)
-    × (run_of o (called (failure 1) ∷ estimated 5 []) ≡ 5) × (run_of o (called (failure 1) ∷ estimated 5 (called (failure 2) ∷ [])) ≡ 0)
-    × (run_of o (estimated 1 (called (failure 1) ∷ estimated 12 (called (failure 2) ∷ []))) ≡ 1)
-    × (run_of o (called (failure 1) ∷ estimated 13 (called (failure 2) ∷ [])) ≡ 13)
+    × (run_of o (reported permission ∷ reported denial ∷ estimated 5 []) ≡ 5)
+    × (run_of o (reported admission ∷ reported (failure 3) ∷ estimated 5 []) ≡ 5)
+    × (run_of o (reported (failure 1) ∷ estimated 5 []) ≡ 5) × (run_of o (reported (failure 1) ∷ estimated 5 (reported (failure 2) ∷ [])) ≡ 0)
+    × (run_of o (estimated 1 (reported (failure 1) ∷ estimated 12 (reported (failure 2) ∷ []))) ≡ 1)
+    × (run_of o (reported (failure 1) ∷ estimated 13 (reported (failure 2) ∷ [])) ≡ 13)
 unfolding book_definitions
 runs = (refl, refl, refl, refl, refl, refl, refl, refl, refl, refl, refl)
 
 -- R is 3 with denials 2 and a shorter run, and the run plus 1 else
 counts :
-    ((inputs_of o (called denial ∷ called denial ∷ []) []).counted ≡ 3) × ((inputs_of o (called denial ∷ []) []).counted ≡ 1)
-    × ((inputs_of o (estimated 5 (called denial ∷ called denial ∷ [])) []).counted ≡ 6)
+    ((inputs_of o (reported denial ∷ reported denial ∷ []) []).counted ≡ 3) × ((inputs_of o (reported denial ∷ []) []).counted ≡ 1)
+    × ((inputs_of o (estimated 5 (reported denial ∷ reported denial ∷ [])) []).counted ≡ 6)
 unfolding book_definitions
 counts = (refl, refl, refl)
 
@@ -197,13 +202,13 @@ unfolding book_definitions
 same_month = (refl, refl, refl, refl)
 
 -- THE VOLUMES of all closings
-totals : (volumes [] ≡ 0) × (volumes (called denial ∷ shut 1 (5 ∷ 6 ∷ []) ∷ called (billing_volume 9) ∷ shut 8 (2 ∷ []) ∷ []) ≡ 13)
+totals : (volumes [] ≡ 0) × (volumes (reported denial ∷ shut 1 (5 ∷ 6 ∷ []) ∷ called (billing_volume 9) ∷ shut 8 (2 ∷ []) ∷ []) ≡ 13)
 unfolding book_definitions
 totals = (refl, refl)
 
 -- THE BOOK, FED: a refused call adds nothing, and a call that closes no month works nothing out
-fed : (feed o (called denial ∷ []) denial false ≡ called denial ∷ []) × (feed o [] denial true ≡ called denial ∷ [])
-    × (feed o [] (billing_volume 5) true ≡ called (billing_volume 5) ∷ [])
+fed : (feed o (reported denial ∷ []) (report denial) false ≡ reported denial ∷ []) × (feed o [] (report denial) true ≡ reported denial ∷ [])
+    × (feed o [] (read (billing_volume 5)) true ≡ called (billing_volume 5) ∷ [])
 unfolding book_definitions
 fed = (refl, refl, refl)
 
@@ -223,8 +228,8 @@ grounds :
     × ((work_out o (called (neighbour 1 2) ∷ called (billing_volume 7) ∷ []) (close_month 744)).volume ≡ 5)
     × ((work_out o (shut 1 (replicate 744 2) ∷ []) (close_month 672)).ground ≡ 7)
     × ((work_out o (shut 1 (replicate 744 2) ∷ []) (close_month 672)).volume ≡ 1344)
-    × ((work_out o (called (failure 3) ∷ called (billing_volume 7) ∷ shut 1 (replicate 744 2) ∷ []) (close_month 672)).ground ≡ 7)
-    × ((work_out o (called denial ∷ called denial ∷ shut 1 (replicate 744 2) ∷ []) (close_month 672)).ground ≡ 8)
+    × ((work_out o (reported (failure 3) ∷ called (billing_volume 7) ∷ shut 1 (replicate 744 2) ∷ []) (close_month 672)).ground ≡ 7)
+    × ((work_out o (reported denial ∷ reported denial ∷ shut 1 (replicate 744 2) ∷ []) (close_month 672)).ground ≡ 8)
     × ((work_out o (estimated 2 (shut 1 (replicate 744 2) ∷ [])) (close_month 720)).ground ≡ 8)
     × ((work_out o (estimated 2 (shut 1 (replicate 744 2) ∷ [])) (close_month 720)).volume ≡ 720)
 unfolding closing_definitions

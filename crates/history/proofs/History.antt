@@ -14,8 +14,7 @@ use Rattle.calendar.specs.Calendar.{open_hours}
 use Rattle.store.specs.Store.{row_part}
 use Rattle.record.specs.declared.Record.{Record}
 use Rattle.store.specs.Store.{as_row}
-use Rattle.rules.specs.Calls.{Opening, Call, billing_hours, control_hours, billing_volume, control_volume, neighbour, failure, admission, denial}
-use Rattle.rules.specs.Calls.{permission, closing, is_closing}
+use Rattle.rules.specs.Calls.{Opening, Call, read, report, closing, is_closing, marks_of}
 use Rattle.rules.specs.Rules.{Outcome, becomes_past, figures}
 use Rattle.rules.specs.Right.{NearShare, Right}
 use Rattle.model.specs.declared.Answer.{Answer}
@@ -24,7 +23,7 @@ use Rattle.model.specs.Model.{State, state, row_of, refusal, accepted, leaves, f
 use Rattle.model.specs.Opening.{opens, opened, open_leaves, open_answer, Opens}
 use Rattle.model.proofs.Laws.{allowed}
 use Rattle.model.proofs.GoesOn.{opening_sound, never_refused}
-use Rattle.history.specs.Book.{Book, marks_of, month_of, became_past, volumes, work_out, feed}
+use Rattle.history.specs.Book.{Book, month_of, became_past, volumes, work_out, feed}
 use Rattle.history.specs.Claim.{Turn, state_after, Follows, Run, was_accepted, closes, book, handed, all_handed, fills_row, last_buffer}
 use Rattle.history.specs.Claim.{without_refused, Each, Untouched, AsBook, GoesOn, Demand3Always}
 use Rattle.history.proofs.Rows.{take_row, holds_same, holds_none}
@@ -106,15 +105,8 @@ record Closed (o : Opening) (es : Book) (c : Call) (a : Answer) (out : List ℕ)
 does_close : (o : Opening) (es : Book) (s : State) (c : Call) (a : Answer) (store buffer : List ℕ) → Shows o es s → Does s c a store buffer
     → accepted s c ≡ true → is_closing c ≡ true → Closed o es c a buffer
 unfolding is_closing work_out marks_of answer buffer_after figures_of hours_out
-does_close o es s (billing_hours hs) a store buffer h does t e = absurd (false≢true e)
-does_close o es s (control_hours hs) a store buffer h does t e = absurd (false≢true e)
-does_close o es s (billing_volume v) a store buffer h does t e = absurd (false≢true e)
-does_close o es s (control_volume v) a store buffer h does t e = absurd (false≢true e)
-does_close o es s (neighbour source v) a store buffer h does t e = absurd (false≢true e)
-does_close o es s (failure reason) a store buffer h does t e = absurd (false≢true e)
-does_close o es s admission a store buffer h does t e = absurd (false≢true e)
-does_close o es s denial a store buffer h does t e = absurd (false≢true e)
-does_close o es s permission a store buffer h does t e = absurd (false≢true e)
+does_close o es s (read x) a store buffer h does t e = absurd (false≢true e)
+does_close o es s (report x) a store buffer h does t e = absurd (false≢true e)
 does_close o es s (closing marks old) a store buffer h does t e =
     record {
       answered = ap (λ (x : Answer). x.figures) does.answered ∙ rw (t, inputs_shown o es s marks h);

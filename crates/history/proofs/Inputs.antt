@@ -8,6 +8,7 @@ use borrow.Author.Tests.{eqb-true, eqb-false, eq-eqb, ne_eqb}
 use lib.Dec.{eqb, lit≤}
 use lib.ListN.{length, take, drop}
 use lib.Seq.{take-take}
+use Rattle.numbers.specs.Lists.{at}
 use Rattle.numbers.proofs.Laws.{by_cases, both, at_tab}
 use Rattle.calendar.specs.declared.Date.{Date}
 use Rattle.calendar.specs.Calendar.{open_hours, month_number, date_of}
@@ -17,7 +18,7 @@ use Rattle.contract.specs.Contract.{kept}
 use Rattle.store.specs.Store.{as_row}
 use Rattle.rules.specs.Calls.{Opening}
 use Rattle.rules.specs.Rules.{Measured, missing, hourly, whole, Stated, PastHours, becomes_past}
-use Rattle.model.specs.Model.{measured_in, stated_in, row_of, last_year, past_in, inputs}
+use Rattle.model.specs.Model.{State, measured_in, stated_in, row_of, row_hours, last_year, past_month, past_in, inputs}
 use Rattle.history.specs.Book.{Entry, Book, control, closed, of_kind, month_of, billing_of, this_months, source_of, became_past, hours_at}
 use Rattle.history.specs.Book.{latest_hours, or_else_past, past_of, inputs_of}
 use Rattle.history.proofs.Rows.{take_row, row_hours_lem}
@@ -131,6 +132,16 @@ pub month_contents : (o : Opening) (es : Book) (r : ℕ) → r < 12 → contents
 unfolding contents
 month_contents o es r l = rw (ne_eqb r 12 (omega arith), ne_eqb r 13 (omega arith))
 
+-- the past's hours by where its month is found
+past_hours : (s : State)
+    → past_in s
+    ≡ cond (eqb (at s.point.past.years (row_of s.point.date)) (s.point.date.year - 1)) (Some (row_hours s (last_year s.point.date)))
+    (cond (eqb s.point.past.latest 0) None (Some (row_hours s (date_of s.point.past.latest))))
+unfolding past_in past_month
+past_hours s =
+    by_cases (eqb (at s.point.past.years (row_of s.point.date)) (s.point.date.year - 1)) (λ t. rw t)
+    (λ f. rw f (by_cases (eqb s.point.past.latest 0) (λ t. rw t) (λ n. rw n)))
+
 module _ (o : Opening) (es : Book) (store : List ℕ) (h : Shows o es (seen o es store)) where
   part : (r : ℕ) (d : Date) → r < 12 → row_part store r (open_hours d) ≡ take (open_hours d) (as_row (last_in o es r))
   part r d l = sym (take-take (open_hours d) 744 (drop (744 * r) store) (open_high d)) ∙ rw (h.rows.rows r (omega arith), month_contents o es r l)
@@ -148,8 +159,9 @@ module _ (o : Opening) (es : Book) (store : List ℕ) (h : Shows o es (seen o es
   year_low d k = omega (arith, k.from, k.last)
 
   past_same : past_in (seen o es store) ≡ past_of o es
-  unfolding past_in point_of past_of
+  unfolding point_of past_of
   past_same =
+      past_hours (seen o es store) ∙
       let d : Date = month_of o es in
       let k : OpenLimits d = open_limits d (month_open o es h.months) in
       let y = year_low d k in

@@ -9,7 +9,7 @@ use Rattle.numbers.specs.Lists.{sum, zeros}
 use Rattle.calendar.specs.Calendar.{leap_year, is_month, month_days, month_hours, open_hours}
 use Rattle.power.specs.Power.{agreed_fits}
 use Rattle.record.specs.Record.{zero_record}
-use Rattle.rules.specs.Calls.{Opening, Call, denial, permission, closing}
+use Rattle.rules.specs.Calls.{Opening, denial, permission, Call, report, closing}
 use Rattle.store.specs.Store.{empty_store}
 use Rattle.model.specs.Refusals.{refuse, open_refusal}
 use Rattle.model.specs.Model.{State, state, answer, leaves, buffer_after}
@@ -104,8 +104,9 @@ turn_definitions = tt
 
 -- accepted is number 0; only an accepted closing closes
 accepts :
-    (was_accepted (said denial 0 0 []) ≡ true) × (was_accepted (said denial 33 0 []) ≡ false) × (was_accepted (said denial 1 0 []) ≡ false)
-    × (closes (shut 8 1) ≡ true) × (closes (refused 1) ≡ false) × (closes (said denial 0 0 []) ≡ false)
+    (was_accepted (said (report denial) 0 0 []) ≡ true) × (was_accepted (said (report denial) 33 0 []) ≡ false)
+    × (was_accepted (said (report denial) 1 0 []) ≡ false)
+    × (closes (shut 8 1) ≡ true) × (closes (refused 1) ≡ false) × (closes (said (report denial) 0 0 []) ≡ false)
 unfolding turn_definitions
 accepts = (refl, refl, refl, refl, refl, refl)
 
@@ -117,7 +118,7 @@ leavings s = (refl, refl)
 -- T hours are handed out, 744 in January and 672 in February, and none by a refused closing or another call
 hands :
     (sum (handed o (shut 8 1) []) ≡ 744) × (sum (handed o (shut 8 1) (shut 8 1 ∷ [])) ≡ 672) × (sum (handed o (shut 8 1) (refused 1 ∷ [])) ≡ 744)
-    × (handed o (refused 1) [] ≡ []) × (handed o (said denial 0 0 (1 ∷ [])) [] ≡ [])
+    × (handed o (refused 1) [] ≡ []) × (handed o (said (report denial) 0 0 (1 ∷ [])) [] ≡ [])
     × (all_handed o (shut 8 2 ∷ refused 9 ∷ shut 8 1 ∷ []) ≡ 2088)
 unfolding turn_definitions
 hands = (refl, refl, refl, refl, refl, refl)
@@ -141,6 +142,7 @@ unfolding turn_definitions
 lasts = (refl, refl, refl, refl, refl)
 
 -- the list without its refused calls
-keeps : without_refused (refused 1 ∷ shut 8 1 ∷ said denial 33 0 [] ∷ said permission 0 0 [] ∷ []) ≡ shut 8 1 ∷ said permission 0 0 [] ∷ []
+keeps : without_refused (refused 1 ∷ shut 8 1 ∷ said (report denial) 33 0 [] ∷ said (report permission) 0 0 [] ∷ [])
+    ≡ shut 8 1 ∷ said (report permission) 0 0 [] ∷ []
 unfolding turn_definitions
 keeps = refl

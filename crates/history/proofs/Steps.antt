@@ -13,15 +13,16 @@ use Rattle.calendar.specs.Calendar.{open_hours, month_number}
 use Rattle.calendar.proofs.Laws.{open_high}
 use Rattle.contract.specs.Contract.{kept}
 use Rattle.record.specs.Record.{is_set}
-use Rattle.rules.specs.Calls.{Opening, Call, billing_hours, control_hours, billing_volume, control_volume, neighbour, failure, admission, denial}
-use Rattle.rules.specs.Calls.{permission, closing, is_closing}
+use Rattle.rules.specs.Calls.{Opening, MeterReading, billing_hours, control_hours, billing_volume, control_volume, neighbour}
+use Rattle.rules.specs.Calls.{Report, failure, admission, denial, permission, Call, read, report, closing, is_closing}
 use Rattle.rules.specs.Rules.{Measured, missing, hourly, whole, Outcome, becomes_past}
-use Rattle.model.specs.Refusals.{own_refusal}
-use Rattle.model.specs.Model.{accept, accepted}
+use Rattle.model.specs.Refusals.{reading_number, own_refusal}
+use Rattle.model.specs.Model.{after_reading, after_report, accept, accepted}
 use Rattle.model.proofs.Laws.{reading_passed}
 use Rattle.model.proofs.Keeps.{call_passed}
 use Rattle.model.proofs.GoesOn.{call_sound}
-use Rattle.history.specs.Book.{Entry, Book, control, closed, kind_of, kind_number, of_kind, month_of, denials_of, billing_of, this_months}
+use Rattle.history.specs.Book.{Entry, Book, control, closed, reading_kind, report_kind, kind_of, kind_number, of_kind, month_of, denials_of, billing_of}
+use Rattle.history.specs.Book.{this_months}
 use Rattle.history.specs.Book.{became_past, work_out}
 use Rattle.history.proofs.Rows.{Holds, replaced_at, holds_same, holds_put}
 use Rattle.history.proofs.View.{given_by, hours_read, last_in, contents, point_of, seen, look_backs, OfItsMeter, Entered, MonthsClosed, Shows}
@@ -32,7 +33,8 @@ abbrev pub entry : Opening → Book → Call → Entry
 entry o es c = record { call = c; out = work_out o es c }
 
 -- row 12 or 13 is written, and the others stay
-row_12 : (o : Opening) (es fs : Book) (hs : List ℕ) → hs ≡ hours_read (billing_of fs) → this_months (of_kind control) es ≡ this_months (of_kind control) fs
+row_12 : (o : Opening) (es fs : Book) (hs : List ℕ) → hs ≡ hours_read (billing_of fs)
+    → this_months (of_kind control) es ≡ this_months (of_kind control) fs
     → ((r : ℕ) → last_in o es r ≡ last_in o fs r) → (r : ℕ) → replaced_at (contents o es) 12 hs r ≡ contents o fs r
 unfolding contents
 row_12 o es fs hs b c l r = by_cases (eqb r 12) (λ t. rw t b) (λ f. rw (f, c, l r))
@@ -53,17 +55,25 @@ tested : {a b : ℕ} → not (eqb a b) ≡ false → a ≡ b
 tested {a} {b} e = eqb-true a b (not-false (eqb a b) e)
 
 -- an entry closes a month where its call does
+reading_open : (x : MeterReading) → eqb (kind_number (reading_kind x)) (kind_number closed) ≡ false
+unfolding reading_kind kind_number
+reading_open (billing_hours hs) = refl
+reading_open (control_hours hs) = refl
+reading_open (billing_volume v) = refl
+reading_open (control_volume v) = refl
+reading_open (neighbour source v) = refl
+
+report_open : (x : Report) → eqb (kind_number (report_kind x)) (kind_number closed) ≡ false
+unfolding report_kind kind_number
+report_open (failure reason) = refl
+report_open admission = refl
+report_open denial = refl
+report_open permission = refl
+
 pub entry_closes : (c : Call) (u : Outcome) → of_kind closed (record { call = c; out = u }) ≡ is_closing c
 unfolding of_kind kind_of kind_number is_closing
-entry_closes (billing_hours hs) u = refl
-entry_closes (control_hours hs) u = refl
-entry_closes (billing_volume v) u = refl
-entry_closes (control_volume v) u = refl
-entry_closes (neighbour source v) u = refl
-entry_closes (failure reason) u = refl
-entry_closes admission u = refl
-entry_closes denial u = refl
-entry_closes permission u = refl
+entry_closes (read x) u = reading_open x
+entry_closes (report x) u = report_open x
 entry_closes (closing marks buffer) u = refl
 
 -- and else nothing is asked of it
@@ -91,73 +101,73 @@ module _ (o : Opening) (es : Book) (store : List ℕ) (h : Shows o es (seen o es
   between c t n p r b k =
       record { sound = call_sound (seen o es store) c h.sound t; point = p; rows = r; billing = b; control = k; months = (open_entered o es c n, h.months) }
 
-  pub step_admission : Steps admission
-  unfolding accept point_of contents look_backs
-  step_admission t = between admission t refl refl (holds_same (λ r. refl) h.rows) h.billing h.control
+  pub step_admission : Steps (report admission)
+  unfolding accept after_reading after_report point_of contents look_backs
+  step_admission t = between (report admission) t refl refl (holds_same (λ r. refl) h.rows) h.billing h.control
 
-  pub step_permission : Steps permission
-  unfolding accept point_of contents look_backs
-  step_permission t = between permission t refl refl (holds_same (λ r. refl) h.rows) h.billing h.control
+  pub step_permission : Steps (report permission)
+  unfolding accept after_reading after_report point_of contents look_backs
+  step_permission t = between (report permission) t refl refl (holds_same (λ r. refl) h.rows) h.billing h.control
 
-  pub step_billing_hours : (hs : List ℕ) → Steps (billing_hours hs)
-  unfolding accept point_of kept look_backs own_refusal OfItsMeter
+  pub step_billing_hours : (hs : List ℕ) → Steps (read (billing_hours hs))
+  unfolding accept after_reading after_report point_of kept look_backs own_refusal reading_number OfItsMeter
   step_billing_hours hs t =
-      let q = reading_passed (call_passed (seen o es store) (billing_hours hs) t).own in
+      let q = reading_passed (call_passed (seen o es store) (read (billing_hours hs)) t).own in
       let e : length hs ≡ open_hours (month_of o es) = tested q.long in
-      between (billing_hours hs) t refl refl
-      (holds_same (row_12 o es (entry o es (billing_hours hs) ∷ es) hs refl refl (λ r. refl))
+      between (read (billing_hours hs)) t refl refl
+      (holds_same (row_12 o es (entry o es (read (billing_hours hs)) ∷ es) hs refl refl (λ r. refl))
       (holds_put 12 hs (lit≤ tt) (omega (arith, open_high (month_of o es))) h.rows))
       (tested q.meter, e) h.control
 
-  pub step_control_hours : (hs : List ℕ) → Steps (control_hours hs)
-  unfolding accept point_of kept look_backs own_refusal OfItsMeter
+  pub step_control_hours : (hs : List ℕ) → Steps (read (control_hours hs))
+  unfolding accept after_reading after_report point_of kept look_backs own_refusal reading_number OfItsMeter
   step_control_hours hs t =
-      let q = reading_passed (call_passed (seen o es store) (control_hours hs) t).own in
+      let q = reading_passed (call_passed (seen o es store) (read (control_hours hs)) t).own in
       let e : length hs ≡ open_hours (month_of o es) = tested q.long in
-      between (control_hours hs) t refl refl
-      (holds_same (row_13 o es (entry o es (control_hours hs) ∷ es) hs refl refl (λ r. refl))
+      between (read (control_hours hs)) t refl refl
+      (holds_same (row_13 o es (entry o es (read (control_hours hs)) ∷ es) hs refl refl (λ r. refl))
       (holds_put 13 hs (lit≤ tt) (omega (arith, open_high (month_of o es))) h.rows))
       h.billing (tested q.meter, e)
 
-  pub step_billing_volume : (v : ℕ) → Steps (billing_volume v)
-  unfolding accept point_of kept contents look_backs own_refusal OfItsMeter
+  pub step_billing_volume : (v : ℕ) → Steps (read (billing_volume v))
+  unfolding accept after_reading after_report point_of kept contents look_backs own_refusal reading_number OfItsMeter
   step_billing_volume v t =
-      let q = reading_passed (call_passed (seen o es store) (billing_volume v) t).own in
+      let q = reading_passed (call_passed (seen o es store) (read (billing_volume v)) t).own in
       let n : hours_read (billing_of es) ≡ [] = no_hours (billing_of es) q.first in
-      between (billing_volume v) t refl refl (holds_same (λ r. rw n) h.rows) (tested q.meter) h.control
+      between (read (billing_volume v)) t refl refl (holds_same (λ r. rw n) h.rows) (tested q.meter) h.control
 
-  pub step_control_volume : (v : ℕ) → Steps (control_volume v)
-  unfolding accept point_of kept contents look_backs own_refusal OfItsMeter
+  pub step_control_volume : (v : ℕ) → Steps (read (control_volume v))
+  unfolding accept after_reading after_report point_of kept contents look_backs own_refusal reading_number OfItsMeter
   step_control_volume v t =
-      let q = reading_passed (call_passed (seen o es store) (control_volume v) t).own in
+      let q = reading_passed (call_passed (seen o es store) (read (control_volume v)) t).own in
       let n : hours_read (this_months (of_kind control) es) ≡ [] = no_hours (this_months (of_kind control) es) q.first in
-      between (control_volume v) t refl refl (holds_same (λ r. rw n) h.rows) h.billing (tested q.meter)
+      between (read (control_volume v)) t refl refl (holds_same (λ r. rw n) h.rows) h.billing (tested q.meter)
 
-  pub step_neighbour : (source v : ℕ) → Steps (neighbour source v)
-  unfolding accept point_of contents look_backs own_refusal
+  pub step_neighbour : (source v : ℕ) → Steps (read (neighbour source v))
+  unfolding accept after_reading after_report point_of contents look_backs own_refusal reading_number
   step_neighbour source v t =
-      let q = reading_passed (call_passed (seen o es store) (neighbour source v) t).own in
-      between (neighbour source v) t refl
+      let q = reading_passed (call_passed (seen o es store) (read (neighbour source v)) t).own in
+      between (read (neighbour source v)) t refl
       (by_cases (eqb source 1)
       (λ y. rw (eqb-true source 1 y))
       (λ f. rw (eqb-true source 2 (not-false _ (rw f at q.meter)))))
       (holds_same (λ r. refl) h.rows) h.billing h.control
 
-  pub step_denial : Steps denial
-  unfolding accept point_of contents look_backs OfItsMeter
+  pub step_denial : Steps (report denial)
+  unfolding accept after_reading after_report point_of contents look_backs OfItsMeter
   step_denial t =
-      between denial t refl
+      between (report denial) t refl
       (by_cases (eqb (denials_of es) 1) (λ y. rw (y, add-one)) (λ f. rw (f, add-one)))
       (by_cases (eqb (denials_of es) 1)
-      (λ y. rw y (holds_same (row_12 o es (entry o es denial ∷ es) [] (rw y) refl (λ r. refl)) (holds_put 12 [] (lit≤ tt) (lit≤ tt) h.rows)))
+      (λ y. rw y (holds_same (row_12 o es (entry o es (report denial) ∷ es) [] (rw y) refl (λ r. refl)) (holds_put 12 [] (lit≤ tt) (lit≤ tt) h.rows)))
       (λ f. rw f (holds_same (λ r. rw f) h.rows)))
       (by_cases (eqb (denials_of es) 1) (λ y. rw y tt) (λ f. rw f h.billing))
       h.control
 
-  pub step_failure : (reason : ℕ) → Steps (failure reason)
-  unfolding accept point_of look_backs OfItsMeter
+  pub step_failure : (reason : ℕ) → Steps (report (failure reason))
+  unfolding accept after_reading after_report point_of look_backs OfItsMeter
   step_failure reason t =
-      between (failure reason) t refl
+      between (report (failure reason)) t refl
       (rw (last_is_any o (month_number (month_of o es)) es h.months))
-      (holds_same (row_12 o es (entry o es (failure reason) ∷ es) [] refl refl (λ r. refl)) (holds_put 12 [] (lit≤ tt) (lit≤ tt) h.rows))
+      (holds_same (row_12 o es (entry o es (report (failure reason)) ∷ es) [] refl refl (λ r. refl)) (holds_put 12 [] (lit≤ tt) (lit≤ tt) h.rows))
       tt h.control

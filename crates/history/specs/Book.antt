@@ -5,8 +5,8 @@ use Rattle.std.specs.Prelude.{ℕ, suc, ◌+◌, ◌-◌, Bool, false, cond, ◌
 use Rattle.calendar.specs.declared.Date.{Date}
 use Rattle.calendar.specs.Calendar.{month_number, next_month}
 use Rattle.contract.specs.Contract.{kept}
-use Rattle.rules.specs.Calls.{Opening, Call, billing_hours, control_hours, billing_volume, control_volume, neighbour, failure, admission, denial}
-use Rattle.rules.specs.Calls.{permission, closing, is_closing, is_fault}
+use Rattle.rules.specs.Calls.{Opening, MeterReading, billing_hours, control_hours, billing_volume, control_volume, neighbour}
+use Rattle.rules.specs.Calls.{Report, failure, admission, denial, permission, Call, read, report, closing, is_closing, marks_of, is_fault}
 use Rattle.rules.specs.Rules.{Measured, missing, hourly, whole, Stated, PastHours, Inputs, Outcome}
 use Rattle.rules.specs.Rules.{counted_of, neighbour_of, rules, becomes_past}
 use Rattle.std.specs.Prelude.{None, Some}
@@ -24,16 +24,22 @@ Book = List Entry
 pub data Kind : Type 0 where
   billing control neighbouring failed admitted denied permitted closed : Kind
 
+unfoldable pub reading_kind : MeterReading → Kind
+reading_kind (billing_hours hours) = billing
+reading_kind (control_hours hours) = control
+reading_kind (billing_volume v) = billing
+reading_kind (control_volume v) = control
+reading_kind (neighbour source v) = neighbouring
+
+unfoldable pub report_kind : Report → Kind
+report_kind (failure reason) = failed
+report_kind admission = admitted
+report_kind denial = denied
+report_kind permission = permitted
+
 unfoldable pub kind_of : Call → Kind
-kind_of (billing_hours hours) = billing
-kind_of (control_hours hours) = control
-kind_of (billing_volume v) = billing
-kind_of (control_volume v) = control
-kind_of (neighbour source v) = neighbouring
-kind_of (failure reason) = failed
-kind_of admission = admitted
-kind_of denial = denied
-kind_of permission = permitted
+kind_of (read reading) = reading_kind reading
+kind_of (report what) = report_kind what
 kind_of (closing marks buffer) = closed
 
 -- kinds are told apart by numbers
@@ -50,44 +56,37 @@ kind_number closed = 7
 unfoldable pub of_kind : Kind → Entry → Bool
 of_kind k e = eqb (kind_number (kind_of e.call)) (kind_number k)
 
--- the source of a neighbour reading, the reason of a failure
+-- the source of a neighbour reading, and the reason of a failure
+unfoldable pub source_in : MeterReading → ℕ
+source_in (billing_hours hours) = 0
+source_in (control_hours hours) = 0
+source_in (billing_volume v) = 0
+source_in (control_volume v) = 0
+source_in (neighbour source v) = source
+
+unfoldable pub reason_in : Report → ℕ
+reason_in (failure reason) = reason
+reason_in admission = 0
+reason_in denial = 0
+reason_in permission = 0
+
 unfoldable pub source_or_reason : Call → ℕ
-source_or_reason (billing_hours hours) = 0
-source_or_reason (control_hours hours) = 0
-source_or_reason (billing_volume v) = 0
-source_or_reason (control_volume v) = 0
-source_or_reason (neighbour source v) = source
-source_or_reason (failure reason) = reason
-source_or_reason admission = 0
-source_or_reason denial = 0
-source_or_reason permission = 0
+source_or_reason (read reading) = source_in reading
+source_or_reason (report what) = reason_in what
 source_or_reason (closing marks buffer) = 0
 
--- the reading that a call brings
-unfoldable pub reading_of : Call → Measured
-reading_of (billing_hours hours) = hourly hours
-reading_of (control_hours hours) = hourly hours
-reading_of (billing_volume v) = whole v
-reading_of (control_volume v) = whole v
-reading_of (neighbour source v) = whole v
-reading_of (failure reason) = missing
-reading_of admission = missing
-reading_of denial = missing
-reading_of permission = missing
-reading_of (closing marks buffer) = missing
+-- what a reading says, and the reading that a call brings
+unfoldable pub measured_by : MeterReading → Measured
+measured_by (billing_hours hours) = hourly hours
+measured_by (control_hours hours) = hourly hours
+measured_by (billing_volume v) = whole v
+measured_by (control_volume v) = whole v
+measured_by (neighbour source v) = whole v
 
--- the marks that a closing brings
-unfoldable pub marks_of : Call → List ℕ
-marks_of (billing_hours hours) = []
-marks_of (control_hours hours) = []
-marks_of (billing_volume v) = []
-marks_of (control_volume v) = []
-marks_of (neighbour source v) = []
-marks_of (failure reason) = []
-marks_of admission = []
-marks_of denial = []
-marks_of permission = []
-marks_of (closing marks buffer) = marks
+unfoldable pub reading_of : Call → Measured
+reading_of (read reading) = measured_by reading
+reading_of (report what) = missing
+reading_of (closing marks buffer) = missing
 
 -- a neighbour reading of source n
 unfoldable pub is_from : ℕ → Entry → Bool
@@ -183,7 +182,6 @@ unfoldable pub inputs_of : Opening → Book → List ℕ → Inputs
 inputs_of o es marks =
     record {
       contract = kept o.asked o.currents o.place;
-      date = month_of o es;
       marks = marks;
       counted = counted_of (run_of o es) (denials_of es);
       billing = billing_of es;

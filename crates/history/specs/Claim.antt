@@ -5,13 +5,13 @@ use Rattle.numbers.specs.Lists.{sum, at, zeros}
 use Rattle.calendar.specs.Calendar.{open_hours}
 use Rattle.store.specs.Store.{row_part}
 use Rattle.store.specs.Store.{as_row}
-use Rattle.rules.specs.Calls.{Opening, Call, is_closing, buffer_of}
+use Rattle.rules.specs.Calls.{Opening, Call, is_closing, marks_of, buffer_of}
 use Rattle.rules.specs.Rules.{figures, no_figures}
 use Rattle.rules.specs.Right.{NearShare}
 use Rattle.model.specs.declared.Answer.{Answer}
 use Rattle.model.specs.Model.{State, state, row_of, refusal, Does}
 use Rattle.model.specs.Opening.{Opens}
-use Rattle.history.specs.Book.{Book, marks_of, month_of, volumes, work_out, feed}
+use Rattle.history.specs.Book.{Book, month_of, volumes, work_out, feed}
 
 -- A TURN: a call, and what was there after it: its answer, the store and the hour buffer
 pub record Turn : Type 0 where

@@ -6,7 +6,8 @@ use lib.ListN.{length, replicate}
 use Rattle.calendar.specs.declared.Date.{Date}
 use Rattle.calendar.specs.Calendar.{is_month}
 use Rattle.contract.specs.Contract.{no_cable}
-use Rattle.rules.specs.Calls.{billing_hours, control_hours, billing_volume, control_volume, neighbour, failure, admission, denial, permission, closing}
+use Rattle.rules.specs.Calls.{billing_hours, control_hours, billing_volume, control_volume, neighbour}
+use Rattle.rules.specs.Calls.{failure, admission, denial, permission, read, report, closing}
 use Rattle.line_reader.specs.declared.Line.{Line}
 use Rattle.line_reader.specs.declared.calls.Call.{Call}
 use Rattle.line_reader.specs.declared.calls.Call.TheVariants as call
@@ -71,20 +72,20 @@ abbrev buffer : List ℕ
 buffer = 8 ∷ 9 ∷ []
 
 calls :
-    (call_by (line call.BillingHours) list buffer ≡ billing_hours list)
-    × (call_by (line call.BillingVolume) list buffer ≡ billing_volume 999999999999999999)
-    × (call_by (line call.ControlHours) list buffer ≡ control_hours list)
-    × (call_by (line call.ControlVolume) list buffer ≡ control_volume 999999999999999999)
-    × (call_by (line call.Neighbour) list buffer ≡ neighbour 2 999999999999999999)
-    × (call_by (line call.Failure) list buffer ≡ failure 3)
-    × (call_by (line call.Admission) list buffer ≡ admission)
-    × (call_by (line call.Denial) list buffer ≡ denial)
-    × (call_by (line call.Permission) list buffer ≡ permission)
+    (call_by (line call.BillingHours) list buffer ≡ read (billing_hours list))
+    × (call_by (line call.BillingVolume) list buffer ≡ read (billing_volume 999999999999999999))
+    × (call_by (line call.ControlHours) list buffer ≡ read (control_hours list))
+    × (call_by (line call.ControlVolume) list buffer ≡ read (control_volume 999999999999999999))
+    × (call_by (line call.Neighbour) list buffer ≡ read (neighbour 2 999999999999999999))
+    × (call_by (line call.Failure) list buffer ≡ report (failure 3))
+    × (call_by (line call.Admission) list buffer ≡ report admission)
+    × (call_by (line call.Denial) list buffer ≡ report denial)
+    × (call_by (line call.Permission) list buffer ≡ report permission)
     × (call_by (line call.Close) (0 ∷ 1 ∷ 2 ∷ 3 ∷ 255 ∷ []) buffer ≡ closing (0 ∷ 1 ∷ 2 ∷ 3 ∷ 255 ∷ []) buffer)
     × (call_by (line call.Close) [] buffer ≡ closing [] buffer)
-    × (call_by (with_call call.BillingVolume fresh_line) list buffer ≡ billing_volume 0)
-    × (call_by (with_call call.Neighbour fresh_line) list buffer ≡ neighbour 0 0)
-    × (call_by (with_call call.Failure fresh_line) list buffer ≡ failure 0)
+    × (call_by (with_call call.BillingVolume fresh_line) list buffer ≡ read (billing_volume 0))
+    × (call_by (with_call call.Neighbour fresh_line) list buffer ≡ read (neighbour 0 0))
+    × (call_by (with_call call.Failure fresh_line) list buffer ≡ report (failure 0))
 unfolding call_definitions
 calls = (refl, refl, refl, refl, refl, refl, refl, refl, refl, refl, refl, refl, refl, refl)
 

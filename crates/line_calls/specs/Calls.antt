@@ -5,8 +5,8 @@ use Rattle.calendar.specs.declared.Date.{Date}
 use Rattle.power.specs.declared.Cable.{Cable}
 use Rattle.contract.specs.declared.Contract.{Contract}
 use Rattle.record.specs.declared.Record.{Record}
-use Rattle.rules.specs.Calls.{Opening, Call, billing_hours, control_hours, billing_volume, control_volume, neighbour, failure, admission}
-use Rattle.rules.specs.Calls.{denial, permission, closing, is_closing}
+use Rattle.rules.specs.Calls.{Opening, billing_hours, control_hours, billing_volume, control_volume, neighbour}
+use Rattle.rules.specs.Calls.{failure, admission, denial, permission, Call, read, report, closing, is_closing}
 use Rattle.model.specs.declared.Answer.{Answer}
 use Rattle.model.specs.Model.{state, Does}
 use Rattle.line_reader.specs.declared.Line.{Line}
@@ -60,15 +60,15 @@ pub record Copied (list before after : List ℕ) (n : ℕ) : Type 0 where
 
 -- ANY OTHER CALL; what is none of the others is a closing
 unfoldable pub call_as : Option Named → Line → List ℕ → List ℕ → Call
-call_as (Some call.BillingHours) line list buffer = billing_hours list
-call_as (Some call.BillingVolume) line list buffer = billing_volume (argument_of key.Volume line)
-call_as (Some call.ControlHours) line list buffer = control_hours list
-call_as (Some call.ControlVolume) line list buffer = control_volume (argument_of key.Volume line)
-call_as (Some call.Neighbour) line list buffer = neighbour (field_of key.Source line) (argument_of key.Volume line)
-call_as (Some call.Failure) line list buffer = failure (field_of key.Reason line)
-call_as (Some call.Admission) line list buffer = admission
-call_as (Some call.Denial) line list buffer = denial
-call_as (Some call.Permission) line list buffer = permission
+call_as (Some call.BillingHours) line list buffer = read (billing_hours list)
+call_as (Some call.BillingVolume) line list buffer = read (billing_volume (argument_of key.Volume line))
+call_as (Some call.ControlHours) line list buffer = read (control_hours list)
+call_as (Some call.ControlVolume) line list buffer = read (control_volume (argument_of key.Volume line))
+call_as (Some call.Neighbour) line list buffer = read (neighbour (field_of key.Source line) (argument_of key.Volume line))
+call_as (Some call.Failure) line list buffer = report (failure (field_of key.Reason line))
+call_as (Some call.Admission) line list buffer = report admission
+call_as (Some call.Denial) line list buffer = report denial
+call_as (Some call.Permission) line list buffer = report permission
 call_as _ line list buffer = closing (marks_from list) buffer
 
 unfoldable pub call_by : Line → List ℕ → List ℕ → Call

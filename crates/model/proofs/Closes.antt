@@ -12,10 +12,10 @@ use lib.Seq.{get_or-set_same, get_or-set_other, length-take-le}
 use Rattle.numbers.specs.Lists.{at, none_above}
 use Rattle.numbers.proofs.Laws.{by_cases, both, cond_most, all_at, all_from}
 use Rattle.calendar.specs.declared.Date.{Date}
-use Rattle.calendar.specs.Calendar.{is_month, month_days, open_hours, month_number, is_month_number, year_of, place_of, date_of, next_month}
+use Rattle.calendar.specs.Calendar.{is_month, open_hours, month_number, is_month_number, year_of, place_of, next_month}
 use Rattle.calendar.proofs.Laws.{limits, days_low, days_high, month_hours_lem, open_next, number_limits, number_next}
 use Rattle.store.specs.Store.{row_part}
-use Rattle.marks.specs.Marks.{high, crowded, unmatched}
+use Rattle.marks.specs.Marks.{crowded}
 use Rattle.power.specs.Power.{cable_fits}
 use Rattle.contract.specs.declared.Contract.{Contract}
 use Rattle.record.specs.declared.Past.{Past}
@@ -28,48 +28,40 @@ use Rattle.store.specs.Store.{as_row, put_row, store_fits}
 use Rattle.store.proofs.Laws.{length_row, length_put, put_fits_month, put_fits_past, row_part_fits, row_part_fits_month}
 use Rattle.rules.specs.Calls.{closing}
 use Rattle.rules.specs.Rules.{rules, becomes_past}
-use Rattle.rules.specs.Right.{HoursFit, MeasuredFits, PastHoursFit, InputsFit}
-use Rattle.rules.proofs.Laws.{rules_right}
-use Rattle.model.specs.Refusals.{own_refusal}
-use Rattle.model.specs.Model.{State, measured_in, row_of, last_year, past_in, inputs, past_after, run_after, rows_after, closed_with, accept, accepted}
+use Rattle.rules.specs.Right.{Right, HoursFit, MeasuredFits, PastHoursFit}
+use Rattle.rules.proofs.Laws.{rules_right, of_missing, of_hours, of_volume, each_past}
+use Rattle.model.specs.Refusals.{closing_number, own_refusal}
+use Rattle.model.specs.Model.{State, state, measured_in, row_of, past_month, row_hours, past_in, inputs, past_after, run_after, rows_after, closed_with}
+use Rattle.model.specs.Model.{accept, accepted}
+use Rattle.model.specs.Settled.{Settled}
 use Rattle.model.specs.Sound.{StateFits, Room}
 use Rattle.model.proofs.Laws.{skip}
 use Rattle.model.proofs.Keeps.{call_passed, open_month, no_hours}
 
 -- what numbers 40 to 45 leave of a closing that is accepted
-pub record Settled (r : Record) (store marks buffer : List ℕ) : Type 0 where
-  pub long : length marks ≡ open_hours r.date
-  pub low : high marks ≡ false
-  pub not_crowded : crowded marks (length marks / 24) ≡ false
-  pub matched : unmatched marks (length marks / 24) ≡ false
-  pub room : length buffer ≡ 744
-  pub fits : store_fits store ≡ true
+record OwnPassed (r : Record) (store marks buffer : List ℕ) : Type 0 where
+  long : length marks ≡ open_hours r.date
+  not_crowded : crowded marks (length marks / 24) ≡ false
+  room : length buffer ≡ 744
+  fits : store_fits store ≡ true
 
-pub settled : (s : State) (marks buffer : List ℕ) → accepted s (closing marks buffer) ≡ true → Settled s.point s.store marks buffer
-unfolding own_refusal
-settled s marks buffer t =
-    let a = skip (lit< tt) (call_passed s (closing marks buffer) t).own in
+own_passed : (r : Record) (store marks buffer : List ℕ) → closing_number r store marks buffer ≡ 0 → OwnPassed r store marks buffer
+own_passed r store marks buffer h =
+    let a = skip (lit< tt) h in
     let b = skip (lit< tt) a.1 in
     let d = skip (lit< tt) b.1 in
     let e = skip (lit< tt) d.1 in
     let f = skip (lit< tt) e.1 in
     let g = skip (lit< tt) f.1 in
-    record {
-      long = eqb-true _ _ (not-false _ a.0);
-      low = b.0;
-      not_crowded = d.0;
-      matched = e.0;
-      room = eqb-true _ _ (not-false _ f.0);
-      fits = not-false _ g.0;
-    }
+    record { long = eqb-true _ _ (not-false _ a.0); not_crowded = d.0; room = eqb-true _ _ (not-false _ f.0); fits = not-false _ g.0 }
 
 -- a reading that the record holds
-measured : (kind t : ℕ) (g : Reading) (hs : List ℕ) → HoursFit t hs → g.volume.0 ≤ t * 1000000 → MeasuredFits t (measured_in kind g hs)
+measured : (kind k t : ℕ) (g : Reading) (hs : List ℕ) → HoursFit t hs → g.volume.0 ≤ k → MeasuredFits k t (measured_in kind g hs)
 unfolding measured_in
-measured kind t g hs f l =
+measured kind k t g hs f l =
     by_cases (is_set g.given)
-    (λ y. rw y (by_cases (eqb kind 1) (λ k. rw k f) (λ k. rw k l)))
-    (λ n. rw n tt)
+    (λ y. rw y (by_cases (eqb kind 1) (λ h. rw h (of_hours f)) (λ h. rw h (of_volume l))))
+    (λ n. rw n of_missing)
 
 -- a row of the month
 row_hours_lem : (store : List ℕ) (r t : ℕ) → length store ≡ 10416 → store_fits store ≡ true → 12 ≤ r → r ≤ 13 → t ≤ 744
@@ -80,7 +72,7 @@ row_hours_lem store r t words fits low high l = record {
 }
 
 -- the volume of a reading is within its limit
-pub volume_most : (d : Date) (g : Reading) (has w : Bool) → all_of (reading_tests g has w (volume_limit d)) ≡ true → g.volume.0 ≤ open_hours d * 1000000
+volume_most : (d : Date) (g : Reading) (has w : Bool) → all_of (reading_tests g has w (volume_limit d)) ≡ true → g.volume.0 ≤ open_hours d * 1000000
 unfolding volume_limit
 volume_most d g has w h = leb-true _ _ (each_test (reading_tests g has w (open_hours d * 1000000)) h).1.1.1.0
 
@@ -90,45 +82,58 @@ cable_there c h t = rw t at (each_test (contract_tests c) h).1.1.1.1.0
 
 past_small : (s : State) → store_fits s.store ≡ true → PastHoursFit (past_in s)
 unfolding past_in
-past_small s f =
-    by_cases (eqb (at s.point.past.years (row_of s.point.date)) (s.point.date.year - 1))
-    (λ y. rw y (row_part_fits (row_of (last_year s.point.date)) (open_hours (last_year s.point.date)) s.store f))
-    (λ n.
-    rw n
-    (by_cases (eqb s.point.past.latest 0)
-    (λ y. rw y tt)
-    (λ m. rw m (row_part_fits (row_of (date_of s.point.past.latest)) (open_hours (date_of s.point.past.latest)) s.store f))))
+past_small s f = each_past (row_hours s) (past_month s.point) (λ d. row_part_fits (row_of d) (open_hours d) s.store f)
 
--- the inputs of an accepted closing are those of which the rules are right
-pub inputs_fit : (s : State) (marks buffer : List ℕ) → accepted s (closing marks buffer) ≡ true → InputsFit (inputs s marks)
-unfolding inputs
-inputs_fit s marks buffer t =
+-- WHAT IS KNOWN OF A CLOSING THAT IS ACCEPTED
+pub settled : (s : State) (marks buffer : List ℕ) → accepted s (closing marks buffer) ≡ true → Settled s.point s.store marks
+unfolding own_refusal inputs
+settled s marks buffer t =
     let r = s.point in
     let o = call_passed s (closing marks buffer) t in
-    let q = settled s marks buffer t in
+    let q = own_passed r s.store marks buffer o.own in
     let v = valid_parts r o.sound in
     let g = readings_parts r.readings r.contract (volume_limit r.date) v.readings in
     let m = open_month r o.sound o.not_over in
     let e = month_hours_lem r.date m in
     let short : open_hours r.date ≤ 744 = omega (arith, e, days_high r.date) in
-    let whole : length marks / 24 ≡ month_days r.date = omega (arith, e, q.long) in
+    let control = volume_most r.date r.readings.control (not (eqb r.contract.control 0)) _ g.control in
     record {
-      days = month_days r.date;
-      whole_days = e;
-      some = omega (arith, days_low r.date m);
-      few = days_high r.date;
-      marks = q.long;
-      not_crowded = rw whole at q.not_crowded;
-      power = leb-true _ _ (each_test (contract_tests r.contract) v.contract).1.1.1.0;
-      cable = cable_there r.contract v.contract;
-      billing =
-          measured _ _ _ _ (row_hours_lem s.store 12 (open_hours r.date) o.size q.fits (lit≤ tt) (lit≤ tt) short)
-          (volume_most r.date r.readings.billing true _ g.billing);
-      control =
-          measured _ _ _ _ (row_hours_lem s.store 13 (open_hours r.date) o.size q.fits (lit≤ tt) (lit≤ tt) short)
-          (volume_most r.date r.readings.control (not (eqb r.contract.control 0)) _ g.control);
-      past = past_small s q.fits;
+      words = o.size;
+      sound = o.sound;
+      month = m;
+      long = q.long;
+      fits = q.fits;
+      counts = record {
+        whole_days = omega (arith, q.long, e);
+        some = omega (arith, q.long, e, days_low r.date m);
+        few = omega (arith, q.long, e, days_high r.date);
+        not_crowded = q.not_crowded;
+        power = leb-true _ _ (each_test (contract_tests r.contract) v.contract).1.1.1.0;
+        cable = cable_there r.contract v.contract;
+        billing =
+            rw q.long
+            (measured _ _ _ _ _ (row_hours_lem s.store 12 (open_hours r.date) o.size q.fits (lit≤ tt) (lit≤ tt) short)
+            (volume_most r.date r.readings.billing true _ g.billing));
+        control =
+            rw q.long
+            (measured _ _ _ _ _ (row_hours_lem s.store 13 (open_hours r.date) o.size q.fits (lit≤ tt) (lit≤ tt) short)
+            (omega (arith, control, short)));
+        past = past_small s q.fits;
+      };
+      run = (service_parts r.service r.date v.service).run;
+      total = leb-true _ _ v.total;
     }
+
+-- and its hour buffer has the length of a row
+pub room_there : (s : State) (marks buffer : List ℕ) → accepted s (closing marks buffer) ≡ true → length buffer ≡ 744
+unfolding own_refusal
+room_there s marks buffer t = (own_passed s.point s.store marks buffer (call_passed s (closing marks buffer) t).own).room
+
+-- what it works out is right for the hours of its month
+pub closing_right : {r : Record} {store marks : List ℕ} → Settled r store marks
+    → Right (open_hours r.date) (rules (inputs (state r store) marks))
+unfolding inputs
+closing_right {r} {store} {marks} k = rw k.long at (rules_right (inputs (state r store) marks) k.counts)
 
 -- THE RECORD AFTER IT
 -- the row of a calendar month is one of the first 12
@@ -229,12 +234,11 @@ unfolding accept closed_with
 closing_fits s marks buffer f t room =
     let r = s.point in
     let d = r.date in
-    let o = call_passed s (closing marks buffer) t in
+    let k = settled s marks buffer t in
     let v = valid_parts r f.record_fits in
     let h = service_parts r.service d v.service in
-    let m = open_month r f.record_fits o.not_over in
-    let fit = inputs_fit s marks buffer t in
-    let right = rules_right (inputs s marks) fit in
+    let m = k.month in
+    let right = closing_right k in
     let u = rules (inputs s marks) in
     let old : Stored s.store = record { words = f.words; fits = f.store_fits_lem } in
     let store : Stored (rows_after (becomes_past u) u.hours d s.store) =

@@ -20,16 +20,17 @@ use Rattle.record.specs.Record.{given_as, no_readings, zero_record, fresh_record
 use Rattle.record.specs.Record.{with_serving, with_denials, with_billing, with_control, with_first, with_second}
 use Rattle.validity.specs.Valid.{volume_limit, valid}
 use Rattle.store.specs.Store.{put_row, store_fits}
-use Rattle.rules.specs.Calls.{Opening, Call, billing_hours, control_hours, billing_volume, control_volume, neighbour, failure, admission}
-use Rattle.rules.specs.Calls.{denial, permission, closing}
+use Rattle.rules.specs.Calls.{Opening, MeterReading, billing_hours, control_hours, billing_volume, control_volume, neighbour}
+use Rattle.rules.specs.Calls.{Report, failure, admission, denial, permission, read, report, closing}
 use Rattle.rules.specs.Rules.{becomes_past}
-use Rattle.model.specs.Refusals.{refuse, refuse_anyone, own_refusal, open_refusal}
-use Rattle.model.specs.Model.{State, state, fault_within_year, after_failure, past_in, closed_with, accept}
+use Rattle.model.specs.Refusals.{refuse, refuse_anyone, reading_number, report_number, own_refusal, open_refusal}
+use Rattle.model.specs.Model.{State, state, fault_within_year, after_failure, past_month, past_in, closed_with, after_reading, after_report, accept}
 use Rattle.std.specs.Prelude.{None, Some}
 
 unfoldable pub refusal_definitions : Unit {0}
-unfolding refuse own_refusal open_refusal valid volume_limit none_above store_fits is_month month_days month_hours open_hours leap_year month_number
-    date_of cable_fits agreed_fits list_fits high crowded unmatched accept past_in
+unfolding refuse reading_number report_number own_refusal open_refusal valid volume_limit none_above store_fits is_month month_days month_hours
+    open_hours leap_year month_number
+    date_of cable_fits agreed_fits list_fits high crowded unmatched accept after_reading after_report past_month past_in
 refusal_definitions = tt
 
 abbrev pub on : ℕ → ℕ → Date
@@ -100,8 +101,8 @@ opening_keeps = (refl, refl, refl, refl, refl)
 abbrev hours : ℕ → List ℕ
 hours n = replicate n 7
 
-abbrev pub number : Record → Call → ℕ
-number r c = own_refusal r [] c
+abbrev number : Record → MeterReading → ℕ
+number r x = own_refusal r [] (read x)
 
 -- the other form, no such meter, no such source
 reading_20 :
@@ -151,18 +152,21 @@ unfolding refusal_definitions
 reading_23_24 = (refl, refl, refl, refl, refl, refl, refl, refl, refl, refl, refl)
 
 -- NETWORK FIRM
+abbrev reported : Record → Report → ℕ
+reported r x = own_refusal r [] (report x)
+
 network :
-    (number (out (point 1 2)) (failure 9) ≡ 30) × (number (point 1 2) (failure 0) ≡ 31) × (number (point 1 2) (failure 5) ≡ 31)
-    × (number (point 1 2) (failure 4) ≡ 0)
-    × (number (point 1 2) admission ≡ 32) × (number (out (point 1 2)) admission ≡ 0) × (number (denied 2 (point 1 2)) denial ≡ 33)
-    × (number (denied 1 (point 1 2)) denial ≡ 0)
-    × (number (point 1 2) permission ≡ 34) × (number (denied 1 (point 1 2)) permission ≡ 0)
+    (reported (out (point 1 2)) (failure 9) ≡ 30) × (reported (point 1 2) (failure 0) ≡ 31) × (reported (point 1 2) (failure 5) ≡ 31)
+    × (reported (point 1 2) (failure 4) ≡ 0)
+    × (reported (point 1 2) admission ≡ 32) × (reported (out (point 1 2)) admission ≡ 0) × (reported (denied 2 (point 1 2)) denial ≡ 33)
+    × (reported (denied 1 (point 1 2)) denial ≡ 0)
+    × (reported (point 1 2) permission ≡ 34) × (reported (denied 1 (point 1 2)) permission ≡ 0)
 unfolding refusal_definitions
 network = (refl, refl, refl, refl, refl, refl, refl, refl, refl, refl)
 
 -- SETTLEMENT: not T marks, and no number before. Those of whole months of marks are in the crate `whole_months`
 abbrev pub closed : List ℕ → ℕ → ℕ
-closed marks n = number (point 1 2) (closing marks (zeros n))
+closed marks n = own_refusal (point 1 2) [] (closing marks (zeros n))
 
 settlement : (closed [] 744 ≡ 40) × (closed (4 ∷ []) 743 ≡ 40) × (closed (zeros 671) 744 ≡ 40) × (closed (zeros 673) 744 ≡ 40)
 unfolding refusal_definitions
@@ -188,13 +192,13 @@ unfolding month_number
 failures = (refl, refl, refl, refl, refl, refl)
 
 -- DENIALS: the second discards the billing reading, the first does not; a permission leaves the run
-abbrev read : Record
-read = with_readings (point 2 2) (with_billing (point 2 2).readings (given_as 9))
+abbrev metered : Record
+metered = with_readings (point 2 2) (with_billing (point 2 2).readings (given_as 9))
 
 denials :
-    ((accept (state read []) denial).point ≡ with_service read (with_denials fresh_service 1))
-    × ((accept (state (denied 1 read) []) denial).point ≡ with_service (point 2 2) (with_denials fresh_service 2))
-    × ((accept (state (served (point 2 2) (record { run = 5; serving = 0; denials = 2; fault = 0 })) []) permission).point.service
+    ((accept (state metered []) (report denial)).point ≡ with_service metered (with_denials fresh_service 1))
+    × ((accept (state (denied 1 metered) []) (report denial)).point ≡ with_service (point 2 2) (with_denials fresh_service 2))
+    × ((accept (state (served (point 2 2) (record { run = 5; serving = 0; denials = 2; fault = 0 })) []) (report permission)).point.service
     ≡ record { run = 5; serving = 0; denials = 0; fault = 0 })
 unfolding refusal_definitions
 denials = (refl, refl, refl)
@@ -203,30 +207,32 @@ denials = (refl, refl, refl)
 abbrev empty : List ℕ
 empty = zeros 10416
 
-abbrev after : Record → Call → ℕ → ℕ
-after r c k = at (accept (state r empty) c).store k
+abbrev after : Record → MeterReading → ℕ → ℕ
+after r x k = at (accept (state r empty) (read x)).store k
 
 rows :
     (after (point 1 1) (billing_hours (7 ∷ [])) 8928 ≡ 7) × (after (point 1 1) (billing_hours (7 ∷ [])) 8929 ≡ 0)
     × (after (point 1 1) (billing_hours (7 ∷ [])) 9672 ≡ 0)
     × (after (point 1 1) (control_hours (7 ∷ [])) 9672 ≡ 7) × (after (point 1 1) (control_hours (7 ∷ [])) 8928 ≡ 0)
-    × ((accept (state (point 1 1) []) (billing_hours (7 ∷ []))).point ≡ with_readings (point 1 1) (with_billing (point 1 1).readings (given_as 0)))
-    × ((accept (state (point 1 1) []) (control_hours (7 ∷ []))).point ≡ with_readings (point 1 1) (with_control (point 1 1).readings (given_as 0)))
+    × ((accept (state (point 1 1) []) (read (billing_hours (7 ∷ [])))).point ≡ with_readings (point 1 1) (with_billing (point 1 1).readings (given_as 0)))
+    × ((accept (state (point 1 1) []) (read (control_hours (7 ∷ [])))).point ≡ with_readings (point 1 1) (with_control (point 1 1).readings (given_as 0)))
 unfolding refusal_definitions padded put_row
 rows = (refl, refl, refl, refl, refl, refl, refl)
 
 volumes :
-    (accept (state (point 2 2) []) (billing_volume 9) ≡ state read [])
-    × (accept (state (point 2 2) []) (control_volume 9) ≡ state (with_readings (point 2 2) (with_control (point 2 2).readings (given_as 9))) [])
-    × (accept (state (point 2 2) []) (neighbour 1 9) ≡ state (with_readings (point 2 2) (with_first (point 2 2).readings (given_as 9))) [])
-    × (accept (state (point 2 2) []) (neighbour 2 9) ≡ state (with_readings (point 2 2) (with_second (point 2 2).readings (given_as 9))) [])
+    (accept (state (point 2 2) []) (read (billing_volume 9)) ≡ state metered [])
+    × (accept (state (point 2 2) []) (read (control_volume 9)) ≡ state (with_readings (point 2 2) (with_control (point 2 2).readings (given_as 9))) [])
+    × (accept (state (point 2 2) []) (read (neighbour 1 9)) ≡ state (with_readings (point 2 2) (with_first (point 2 2).readings (given_as 9))) [])
+    × (accept (state (point 2 2) []) (read (neighbour 2 9)) ≡ state (with_readings (point 2 2) (with_second (point 2 2).readings (given_as 9))) [])
 unfolding refusal_definitions
 volumes = (refl, refl, refl, refl)
 
 -- a failure discards the reading, its volume and row 12; an admission puts back in service and leaves all else
 discards :
-    ((accept (state read []) (failure 3)).point ≡ out (point 2 2)) × (at (accept (state read (set empty 8928 7)) (failure 3)).store 8928 ≡ 0)
-    × (at (accept (state read (set empty 9672 7)) (failure 3)).store 9672 ≡ 7) × (accept (state (out read) []) admission ≡ state read [])
+    ((accept (state metered []) (report (failure 3))).point ≡ out (point 2 2))
+    × (at (accept (state metered (set empty 8928 7)) (report (failure 3))).store 8928 ≡ 0)
+    × (at (accept (state metered (set empty 9672 7)) (report (failure 3))).store 9672 ≡ 7)
+    × (accept (state (out metered) []) (report admission) ≡ state metered [])
 unfolding refusal_definitions padded put_row
 discards = (refl, refl, refl, refl)
 

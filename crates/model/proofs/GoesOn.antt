@@ -21,21 +21,22 @@ use Rattle.validity.proofs.Laws.{all, valid_from, service_from, past_from, none_
 use Rattle.record.specs.declared.Record.{Record}
 use Rattle.store.specs.Store.{store_fits}
 use Rattle.store.proofs.Laws.{fits_empty}
-use Rattle.rules.specs.Calls.{Opening, Call, billing_hours, control_hours, billing_volume, control_volume, neighbour, failure, admission, denial}
-use Rattle.rules.specs.Calls.{permission, closing, is_closing, is_fault}
+use Rattle.rules.specs.Calls.{Opening, MeterReading, billing_hours, control_hours, billing_volume, control_volume, neighbour}
+use Rattle.rules.specs.Calls.{Report, failure, admission, denial, permission, Call, read, report, closing, is_closing, is_fault}
 use Rattle.rules.specs.Rules.{rules, becomes_past}
-use Rattle.rules.proofs.Laws.{rules_right}
-use Rattle.model.specs.Refusals.{refuse, refuse_reading, closing_number, own_refusal, open_refusal}
+use Rattle.model.specs.Refusals.{refuse, refuse_reading, closing_number, reading_number, report_number, own_refusal, open_refusal}
 use Rattle.model.specs.declared.Answer.{Answer}
-use Rattle.model.specs.Model.{State, fault_within_year, inputs, closed_with, accept, accepted, state, refusal, leaves, answer, Does}
+use Rattle.model.specs.Model.{State, fault_within_year, inputs, closed_with, after_reading, after_report, accept, accepted, state, refusal, leaves, answer}
+use Rattle.model.specs.Model.{Does}
 use Rattle.model.specs.Opening.{opens, opened, open_leaves, open_answer, Opens}
 use Rattle.model.specs.Sound.{Room, Sound, StateFits}
 use Rattle.model.proofs.Laws.{Allowed, allowed}
-use Rattle.model.proofs.Keeps.{call_passed, open_month, keeps}
-use Rattle.model.proofs.Closes.{inputs_fit, closing_fits}
+use Rattle.model.proofs.Keeps.{keeps}
+use Rattle.model.proofs.Closes.{settled, closing_right, closing_fits}
 
 -- one of the three bases
-basis_known : (k p : ℕ) (currents : List ℕ) (place : ℕ) (cable : Cable) → basis_fits k p currents place cable ≡ true → is_agreed k || eqb k 3 ≡ true
+basis_known : (k p : ℕ) (currents : List ℕ) (place : ℕ) (cable : Cable) → basis_fits k p currents place cable ≡ true
+    → is_agreed k || eqb k 3 ≡ true
 unfolding basis_fits
 basis_known k p currents place cable h =
     by_cases (eqb k 1) (λ t. rw t)
@@ -96,25 +97,33 @@ record Stays (s t : State) : Type 0 where
   run : t.point.service.run ≤ s.point.service.run
   total : t.point.total.0 ≡ s.point.total.0
 
-stays : (s : State) (c : Call) → is_closing c ≡ false → Stays s (accept s c)
-unfolding is_closing accept
-stays s (billing_hours hs) e = record { date = refl; run = omega arith; total = refl }
-stays s (control_hours hs) e = record { date = refl; run = omega arith; total = refl }
-stays s (billing_volume v) e = record { date = refl; run = omega arith; total = refl }
-stays s (control_volume v) e = record { date = refl; run = omega arith; total = refl }
-stays s (neighbour source v) e = record { date = refl; run = omega arith; total = refl }
-stays s (failure reason) e =
+reading_stays : (s : State) (x : MeterReading) → Stays s (after_reading s x)
+unfolding after_reading
+reading_stays s (billing_hours hs) = record { date = refl; run = omega arith; total = refl }
+reading_stays s (control_hours hs) = record { date = refl; run = omega arith; total = refl }
+reading_stays s (billing_volume v) = record { date = refl; run = omega arith; total = refl }
+reading_stays s (control_volume v) = record { date = refl; run = omega arith; total = refl }
+reading_stays s (neighbour source v) = record { date = refl; run = omega arith; total = refl }
+
+report_stays : (s : State) (x : Report) → Stays s (after_report s x)
+unfolding after_report
+report_stays s (failure reason) =
     record {
       date = refl;
       run = cond_most (is_fault reason && fault_within_year s.point.service.fault (month_number s.point.date)) zero-le (omega arith);
       total = refl;
     }
-stays s admission e = record { date = refl; run = omega arith; total = refl }
-stays s denial e =
+report_stays s admission = record { date = refl; run = omega arith; total = refl }
+report_stays s denial =
     by_cases (eqb s.point.service.denials 1)
     (λ t. rw t (record { date = refl; run = omega arith; total = refl }))
     (λ f. rw f (record { date = refl; run = omega arith; total = refl }))
-stays s permission e = record { date = refl; run = omega arith; total = refl }
+report_stays s permission = record { date = refl; run = omega arith; total = refl }
+
+stays : (s : State) (c : Call) → is_closing c ≡ false → Stays s (accept s c)
+unfolding is_closing accept
+stays s (read x) e = reading_stays s x
+stays s (report x) e = report_stays s x
 stays s (closing marks buffer) e = absurd (false≢true (sym e))
 
 between_closings : (s : State) (c : Call) → is_closing c ≡ false → Sound s → accepted s c ≡ true → Sound (accept s c)
@@ -131,10 +140,10 @@ unfolding accept closed_with
 at_closing s marks buffer sound t =
     let d = s.point.date in
     let u = rules (inputs s marks) in
-    let m = open_month s.point sound.fits.record_fits (call_passed s (closing marks buffer) t).not_over in
-    let n = number_next d m in
-    let l = number_limits d m in
-    let right = rules_right (inputs s marks) (inputs_fit s marks buffer t) in
+    let k = settled s marks buffer t in
+    let n = number_next d k.month in
+    let l = number_limits d k.month in
+    let right = closing_right k in
     let room : Room s u = record {
       run = omega (arith, sound.run, l.1);
       total = omega (arith, sound.total, l.1, right.most);
@@ -148,15 +157,8 @@ at_closing s marks buffer sound t =
 -- EVERY ACCEPTED CALL
 pub call_sound : (s : State) (c : Call) → Sound s → accepted s c ≡ true → Sound (accept s c)
 unfolding is_closing
-call_sound s (billing_hours hs) f t = between_closings s (billing_hours hs) refl f t
-call_sound s (control_hours hs) f t = between_closings s (control_hours hs) refl f t
-call_sound s (billing_volume v) f t = between_closings s (billing_volume v) refl f t
-call_sound s (control_volume v) f t = between_closings s (control_volume v) refl f t
-call_sound s (neighbour source v) f t = between_closings s (neighbour source v) refl f t
-call_sound s (failure reason) f t = between_closings s (failure reason) refl f t
-call_sound s admission f t = between_closings s admission refl f t
-call_sound s denial f t = between_closings s denial refl f t
-call_sound s permission f t = between_closings s permission refl f t
+call_sound s (read x) f t = between_closings s (read x) refl f t
+call_sound s (report x) f t = between_closings s (report x) refl f t
 call_sound s (closing marks buffer) f t = at_closing s marks buffer f t
 
 opens_at : (o : Opening) (store : List ℕ) → open_refusal (length store) o ≡ 0 → opens o store ≡ true
@@ -207,17 +209,25 @@ closing_among r store marks buffer f =
     (among _ 43 _ (lit≤ tt) (lit≤ tt)
     (among _ 44 _ (lit≤ tt) (lit≤ tt) (store_among store f)))))
 
+reading_among : (r : Record) (x : MeterReading) → Among (reading_number r x)
+unfolding reading_number
+reading_among r (billing_hours hs) = readings_among _ _ _ _ _
+reading_among r (control_hours hs) = readings_among _ _ _ _ _
+reading_among r (billing_volume v) = readings_among _ _ _ _ _
+reading_among r (control_volume v) = readings_among _ _ _ _ _
+reading_among r (neighbour source v) = readings_among _ _ _ _ _
+
+report_among : (r : Record) (x : Report) → Among (report_number r x)
+unfolding report_number
+report_among r (failure reason) = among _ 30 _ (lit≤ tt) (lit≤ tt) (one_among _ 31 (lit≤ tt) (lit≤ tt))
+report_among r admission = one_among _ 32 (lit≤ tt) (lit≤ tt)
+report_among r denial = one_among _ 33 (lit≤ tt) (lit≤ tt)
+report_among r permission = one_among _ 34 (lit≤ tt) (lit≤ tt)
+
 own_among : (r : Record) (store : List ℕ) (c : Call) → store_fits store ≡ true → Among (own_refusal r store c)
 unfolding own_refusal
-own_among r store (billing_hours hs) f = readings_among _ _ _ _ _
-own_among r store (control_hours hs) f = readings_among _ _ _ _ _
-own_among r store (billing_volume v) f = readings_among _ _ _ _ _
-own_among r store (control_volume v) f = readings_among _ _ _ _ _
-own_among r store (neighbour source v) f = readings_among _ _ _ _ _
-own_among r store (failure reason) f = among _ 30 _ (lit≤ tt) (lit≤ tt) (one_among _ 31 (lit≤ tt) (lit≤ tt))
-own_among r store admission f = one_among _ 32 (lit≤ tt) (lit≤ tt)
-own_among r store denial f = one_among _ 33 (lit≤ tt) (lit≤ tt)
-own_among r store permission f = one_among _ 34 (lit≤ tt) (lit≤ tt)
+own_among r store (read x) f = reading_among r x
+own_among r store (report x) f = report_among r x
 own_among r store (closing marks buffer) f = closing_among r store marks buffer f
 
 refusal_among : (s : State) (c : Call) → StateFits s → Among (refusal s c)

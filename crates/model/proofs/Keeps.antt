@@ -23,10 +23,10 @@ use Rattle.validity.proofs.Laws.{Valid, valid_parts, valid_from, ServiceFits, se
 use Rattle.validity.proofs.Laws.{readings_from, missing_fits, hours_fit, volume_fits}
 use Rattle.store.specs.Store.{as_row, put_row}
 use Rattle.store.proofs.Laws.{length_row, length_put, put_fits_month}
-use Rattle.rules.specs.Calls.{Call, billing_hours, control_hours, billing_volume, control_volume, neighbour, failure, admission, denial, permission}
-use Rattle.rules.specs.Calls.{closing, is_closing, is_fault}
-use Rattle.model.specs.Refusals.{own_refusal}
-use Rattle.model.specs.Model.{State, state, discarded, fault_within_year, after_failure, one_denial, accept, refusal, accepted}
+use Rattle.rules.specs.Calls.{MeterReading, billing_hours, control_hours, billing_volume, control_volume, neighbour}
+use Rattle.rules.specs.Calls.{Report, failure, admission, denial, permission, Call, read, report, closing, is_closing, is_fault}
+use Rattle.model.specs.Refusals.{reading_number, report_number, own_refusal}
+use Rattle.model.specs.Model.{State, state, discarded, fault_within_year, after_failure, one_denial, after_reading, after_report, accept, refusal, accepted}
 use Rattle.model.specs.Sound.{StateFits}
 use Rattle.model.proofs.Laws.{skip, Passed, passed, reading_passed, month_most}
 
@@ -103,11 +103,12 @@ discarded_fits s f =
     (record { billing = missing_fits true (eqb r.contract.billing 2) (volume_limit r.date); control = g.control; first = g.first; second = g.second }))
     f.twelve (lit≤ tt) (lit≤ tt) (lit≤ tt) no_hours
 
-keep_billing_hours : (s : State) (hs : List ℕ) → StateFits s → accepted s (billing_hours hs) ≡ true → StateFits (accept s (billing_hours hs))
-unfolding own_refusal accept
+keep_billing_hours : (s : State) (hs : List ℕ) → StateFits s → accepted s (read (billing_hours hs)) ≡ true
+    → StateFits (after_reading s (billing_hours hs))
+unfolding reading_number own_refusal after_reading
 keep_billing_hours s hs f t =
     let r = s.point in
-    let o = call_passed s (billing_hours hs) t in
+    let o = call_passed s (read (billing_hours hs)) t in
     let q = reading_passed o.own in
     let v = valid_parts r f.record_fits in
     let g = old_readings r v in
@@ -123,11 +124,12 @@ control_there k n e l =
     (λ t. absurd (omega (arith, eqb-true k 0 t, eqb-true k n (not-false _ e))))
     (λ f. rw f)
 
-keep_control_hours : (s : State) (hs : List ℕ) → StateFits s → accepted s (control_hours hs) ≡ true → StateFits (accept s (control_hours hs))
-unfolding own_refusal accept
+keep_control_hours : (s : State) (hs : List ℕ) → StateFits s → accepted s (read (control_hours hs)) ≡ true
+    → StateFits (after_reading s (control_hours hs))
+unfolding reading_number own_refusal after_reading
 keep_control_hours s hs f t =
     let r = s.point in
-    let o = call_passed s (control_hours hs) t in
+    let o = call_passed s (read (control_hours hs)) t in
     let q = reading_passed o.own in
     let v = valid_parts r f.record_fits in
     let g = old_readings r v in
@@ -141,11 +143,11 @@ keep_control_hours s hs f t =
     }))
     f.twelve (lit≤ tt) (lit≤ tt) (month_most r hs q.long) (not-false _ q.small)
 
-keep_billing_volume : (s : State) (v : ℕ) → StateFits s → accepted s (billing_volume v) ≡ true → StateFits (accept s (billing_volume v))
-unfolding own_refusal accept
+keep_billing_volume : (s : State) (v : ℕ) → StateFits s → accepted s (read (billing_volume v)) ≡ true → StateFits (after_reading s (billing_volume v))
+unfolding reading_number own_refusal after_reading
 keep_billing_volume s v f t =
     let r = s.point in
-    let q = reading_passed (call_passed s (billing_volume v) t).own in
+    let q = reading_passed (call_passed s (read (billing_volume v)) t).own in
     let p = valid_parts r f.record_fits in
     let g = old_readings r p in
     record_kept s _ f
@@ -158,11 +160,11 @@ keep_billing_volume s v f t =
     }))
     f.twelve
 
-keep_control_volume : (s : State) (v : ℕ) → StateFits s → accepted s (control_volume v) ≡ true → StateFits (accept s (control_volume v))
-unfolding own_refusal accept
+keep_control_volume : (s : State) (v : ℕ) → StateFits s → accepted s (read (control_volume v)) ≡ true → StateFits (after_reading s (control_volume v))
+unfolding reading_number own_refusal after_reading
 keep_control_volume s v f t =
     let r = s.point in
-    let q = reading_passed (call_passed s (control_volume v) t).own in
+    let q = reading_passed (call_passed s (read (control_volume v)) t).own in
     let p = valid_parts r f.record_fits in
     let g = old_readings r p in
     record_kept s _ f
@@ -177,11 +179,12 @@ keep_control_volume s v f t =
     }))
     f.twelve
 
-keep_neighbour : (s : State) (source v : ℕ) → StateFits s → accepted s (neighbour source v) ≡ true → StateFits (accept s (neighbour source v))
-unfolding own_refusal accept
+keep_neighbour : (s : State) (source v : ℕ) → StateFits s → accepted s (read (neighbour source v)) ≡ true
+    → StateFits (after_reading s (neighbour source v))
+unfolding reading_number own_refusal after_reading
 keep_neighbour s source v f t =
     let r = s.point in
-    let q = reading_passed (call_passed s (neighbour source v) t).own in
+    let q = reading_passed (call_passed s (read (neighbour source v)) t).own in
     let p = valid_parts r f.record_fits in
     let g = old_readings r p in
     let fits = volume_fits v (volume_limit r.date) (ltb-false _ v q.small) in
@@ -208,11 +211,11 @@ choice : {A : Type 0} (P : A → Type 0) (b : Bool) {x y : A} → P x → P y �
 choice P true p q = p
 choice P false p q = q
 
-keep_failure : (s : State) (reason : ℕ) → StateFits s → accepted s (failure reason) ≡ true → StateFits (accept s (failure reason))
-unfolding accept
+keep_failure : (s : State) (reason : ℕ) → StateFits s → accepted s (report (failure reason)) ≡ true → StateFits (after_report s (failure reason))
+unfolding after_report
 keep_failure s reason f t =
     let r = s.point in
-    let o = call_passed s (failure reason) t in
+    let o = call_passed s (report (failure reason)) t in
     let v = valid_parts r f.record_fits in
     let h = old_service r v in
     let m = open_month r o.sound o.not_over in
@@ -228,8 +231,8 @@ keep_failure s reason f t =
     }))
     f.twelve)
 
-keep_admission : (s : State) → StateFits s → accepted s admission ≡ true → StateFits (accept s admission)
-unfolding accept
+keep_admission : (s : State) → StateFits s → accepted s (report admission) ≡ true → StateFits (after_report s admission)
+unfolding after_report
 keep_admission s f t =
     let r = s.point in
     let v = valid_parts r f.record_fits in
@@ -238,11 +241,11 @@ keep_admission s f t =
     (with_service_lem r (with_serving r.service 1) v (record { run = h.run; serving = lit≤ tt; denials = h.denials; month = h.month; before = h.before }))
     f.twelve
 
-keep_denial : (s : State) → StateFits s → accepted s denial ≡ true → StateFits (accept s denial)
-unfolding own_refusal accept
+keep_denial : (s : State) → StateFits s → accepted s (report denial) ≡ true → StateFits (after_report s denial)
+unfolding report_number own_refusal after_report
 keep_denial s f t =
     let r = s.point in
-    let q = (skip (lit< tt) (call_passed s denial t).own).0 in
+    let q = (skip (lit< tt) (call_passed s (report denial) t).own).0 in
     let v = valid_parts r f.record_fits in
     let h = old_service r v in
     let one : StateFits (one_denial s) =
@@ -258,8 +261,8 @@ keep_denial s f t =
     f.twelve in
     choice StateFits (eqb r.service.denials 1) (discarded_fits (one_denial s) one) one
 
-keep_permission : (s : State) → StateFits s → accepted s permission ≡ true → StateFits (accept s permission)
-unfolding accept
+keep_permission : (s : State) → StateFits s → accepted s (report permission) ≡ true → StateFits (after_report s permission)
+unfolding after_report
 keep_permission s f t =
     let r = s.point in
     let v = valid_parts r f.record_fits in
@@ -269,15 +272,21 @@ keep_permission s f t =
     f.twelve
 
 -- A POINT GOES ON, while the month is not closed
+keeps_reading : (s : State) (x : MeterReading) → StateFits s → accepted s (read x) ≡ true → StateFits (after_reading s x)
+keeps_reading s (billing_hours hs) f t = keep_billing_hours s hs f t
+keeps_reading s (control_hours hs) f t = keep_control_hours s hs f t
+keeps_reading s (billing_volume v) f t = keep_billing_volume s v f t
+keeps_reading s (control_volume v) f t = keep_control_volume s v f t
+keeps_reading s (neighbour source v) f t = keep_neighbour s source v f t
+
+keeps_report : (s : State) (x : Report) → StateFits s → accepted s (report x) ≡ true → StateFits (after_report s x)
+keeps_report s (failure reason) f t = keep_failure s reason f t
+keeps_report s admission f t = keep_admission s f t
+keeps_report s denial f t = keep_denial s f t
+keeps_report s permission f t = keep_permission s f t
+
 pub keeps : (s : State) (c : Call) → is_closing c ≡ false → StateFits s → accepted s c ≡ true → StateFits (accept s c)
-unfolding is_closing
-keeps s (billing_hours hs) e f t = keep_billing_hours s hs f t
-keeps s (control_hours hs) e f t = keep_control_hours s hs f t
-keeps s (billing_volume v) e f t = keep_billing_volume s v f t
-keeps s (control_volume v) e f t = keep_control_volume s v f t
-keeps s (neighbour source v) e f t = keep_neighbour s source v f t
-keeps s (failure reason) e f t = keep_failure s reason f t
-keeps s admission e f t = keep_admission s f t
-keeps s denial e f t = keep_denial s f t
-keeps s permission e f t = keep_permission s f t
+unfolding is_closing accept
+keeps s (read x) e f t = keeps_reading s x f t
+keeps s (report x) e f t = keeps_report s x f t
 keeps s (closing marks buffer) e f t = absurd (true≢false e)

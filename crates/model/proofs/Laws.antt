@@ -18,11 +18,11 @@ use Rattle.contract.specs.Contract.{is_billing_kind, is_control_kind, is_agreed}
 use Rattle.record.specs.declared.Record.{Record}
 use Rattle.record.specs.Record.{zero_record}
 use Rattle.validity.specs.Valid.{valid}
-use Rattle.rules.specs.Calls.{Opening, Call, billing_hours, control_hours, billing_volume, control_volume, neighbour, failure, admission, denial}
-use Rattle.rules.specs.Calls.{permission, closing, is_closing, buffer_of}
+use Rattle.rules.specs.Calls.{Opening, Call, read, report, closing, is_closing, buffer_of}
 use Rattle.rules.specs.Rules.{no_figures}
-use Rattle.model.specs.Refusals.{refuse, refuse_anyone, refuse_reading, not_month, open_refusal, own_refusal}
-use Rattle.model.specs.Model.{State, accept, refusal, accepted, leaves, without_figures, figures_of, hours_out, answer, buffer_after, Does}
+use Rattle.model.specs.Refusals.{refuse, refuse_anyone, refuse_reading, not_month, open_refusal, reading_number, report_number, own_refusal}
+use Rattle.model.specs.Model.{State, after_reading, after_report, accept, refusal, accepted, leaves, without_figures, figures_of, hours_out}
+use Rattle.model.specs.Model.{answer, buffer_after, Does}
 use Rattle.model.specs.declared.Answer.{Answer}
 use Rattle.model.specs.declared.refusals.Refusal.{Refusal}
 use Rattle.model.specs.Refused.{refusal_number, Gives, answered, GivesPoint}
@@ -71,7 +71,7 @@ month_most r hs f =
 
 -- what the proof of a call's code looks into
 unfoldable pub call_definitions : Unit {0}
-unfolding refuse own_refusal refusal accept is_closing
+unfolding refuse own_refusal reading_number report_number refusal accept after_reading after_report is_closing
 call_definitions = tt
 
 -- a refusal has a number
@@ -107,18 +107,15 @@ done s c e z f h q l =
     record { answered = q ∙ rw (t, f, n); left = l ∙ rw t; buffered = rw (t, h) }
 
 -- a call that is no closing has no figures, no hours and no buffer
+no_buffer : (c : Call) → is_closing c ≡ false → buffer_of c ≡ []
+unfolding is_closing buffer_of
+no_buffer (read reading) e = refl
+no_buffer (report what) e = refl
+no_buffer (closing marks buffer) e = absurd (true≢false e)
+
 quiet : (s : State) (c : Call) → is_closing c ≡ false → (figures_of s c ≡ no_figures) × (hours_out s c ≡ []) × (buffer_of c ≡ [])
-unfolding is_closing figures_of hours_out buffer_of
-quiet s (billing_hours hs) e = (refl, refl, refl)
-quiet s (control_hours hs) e = (refl, refl, refl)
-quiet s (billing_volume v) e = (refl, refl, refl)
-quiet s (control_volume v) e = (refl, refl, refl)
-quiet s (neighbour source v) e = (refl, refl, refl)
-quiet s (failure reason) e = (refl, refl, refl)
-quiet s admission e = (refl, refl, refl)
-quiet s denial e = (refl, refl, refl)
-quiet s permission e = (refl, refl, refl)
-quiet s (closing marks buffer) e = absurd (true≢false e)
+unfolding figures_of hours_out
+quiet s c e = (rw e, rw e, no_buffer c e)
 
 -- it does what it comes to
 pub call_does : (s : State) (c : Call) (x : Result Record Refusal) (after : List ℕ) → is_closing c ≡ false → Gives s c x after

@@ -16,17 +16,16 @@ use Rattle.calendar.specs.Calendar.{is_month, open_hours}
 use Rattle.calendar.proofs.Laws.{limits, days_high, month_hours_lem}
 use Rattle.store.specs.Store.{as_row, with_hours, without_hours}
 use Rattle.store.proofs.Laws.{at_row, length_row, length_put, at_put_before, at_put_in, at_put_after}
-use Rattle.rules.specs.Calls.{Opening, Call, billing_hours, control_hours, billing_volume, control_volume, neighbour, failure, admission, denial}
-use Rattle.rules.specs.Calls.{permission, closing}
+use Rattle.rules.specs.Calls.{Opening, MeterReading, billing_hours, control_hours, billing_volume, control_volume, neighbour}
+use Rattle.rules.specs.Calls.{Report, failure, admission, denial, permission, Call, read, report, closing}
 use Rattle.rules.specs.Rules.{rules, becomes_past}
-use Rattle.rules.proofs.Laws.{rules_right}
-use Rattle.model.specs.Refusals.{own_refusal}
-use Rattle.model.specs.Model.{State, discarded, one_denial, row_of, inputs, past_after, rows_after, closed_with, accept, accepted}
+use Rattle.model.specs.Refusals.{reading_number, own_refusal}
+use Rattle.model.specs.Model.{State, discarded, one_denial, row_of, inputs, past_after, rows_after, closed_with, after_reading, after_report, accept, accepted}
 use Rattle.model.specs.Opening.{opened}
 use Rattle.model.specs.Sound.{StateFits, ZeroFrom, month_used, Unused}
 use Rattle.model.proofs.Laws.{reading_passed, month_most}
-use Rattle.model.proofs.Keeps.{call_passed, open_month}
-use Rattle.model.proofs.Closes.{row_few, inputs_fit}
+use Rattle.model.proofs.Keeps.{call_passed}
+use Rattle.model.proofs.Closes.{settled, closing_right, row_few}
 
 -- AN ACCEPTED OPENING
 pub opening_spare : (o : Opening) → Unused (opened o)
@@ -66,10 +65,11 @@ spare_discarded s w u =
       control = other_row 12 [] s.store w (lit≤ tt) (lit≤ tt) 13 _ (inr (lit< tt)) u.control;
     }
 
-spare_billing_hours : (s : State) (hs : List ℕ) → StateFits s → Unused s → accepted s (billing_hours hs) ≡ true → Unused (accept s (billing_hours hs))
-unfolding own_refusal accept
+spare_billing_hours : (s : State) (hs : List ℕ) → StateFits s → Unused s → accepted s (read (billing_hours hs)) ≡ true
+    → Unused (after_reading s (billing_hours hs))
+unfolding reading_number own_refusal after_reading
 spare_billing_hours s hs f u t =
-    let q = reading_passed (call_passed s (billing_hours hs) t).own in
+    let q = reading_passed (call_passed s (read (billing_hours hs)) t).own in
     let long = month_most s.point hs q.long in
     let e = eqb-true (length hs) (open_hours s.point.date) (not-false _ q.long) in
     record {
@@ -80,10 +80,11 @@ spare_billing_hours s hs f u t =
       control = other_row 12 hs s.store f.words (lit≤ tt) long 13 _ (inr (lit< tt)) u.control;
     }
 
-spare_control_hours : (s : State) (hs : List ℕ) → StateFits s → Unused s → accepted s (control_hours hs) ≡ true → Unused (accept s (control_hours hs))
-unfolding own_refusal accept
+spare_control_hours : (s : State) (hs : List ℕ) → StateFits s → Unused s → accepted s (read (control_hours hs)) ≡ true
+    → Unused (after_reading s (control_hours hs))
+unfolding reading_number own_refusal after_reading
 spare_control_hours s hs f u t =
-    let q = reading_passed (call_passed s (control_hours hs) t).own in
+    let q = reading_passed (call_passed s (read (control_hours hs)) t).own in
     let long = month_most s.point hs q.long in
     let e = eqb-true (length hs) (open_hours s.point.date) (not-false _ q.long) in
     record {
@@ -95,28 +96,28 @@ spare_control_hours s hs f u t =
     }
 
 -- the row of an integral meter is not used, and was not used before its reading
-spare_billing_volume : (s : State) (v : ℕ) → Unused s → accepted s (billing_volume v) ≡ true → Unused (accept s (billing_volume v))
-unfolding own_refusal accept
+spare_billing_volume : (s : State) (v : ℕ) → Unused s → accepted s (read (billing_volume v)) ≡ true → Unused (after_reading s (billing_volume v))
+unfolding reading_number own_refusal after_reading
 spare_billing_volume s v u t =
-    let q = reading_passed (call_passed s (billing_volume v) t).own in
+    let q = reading_passed (call_passed s (read (billing_volume v)) t).own in
     record {
       months = u.months;
       billing = rw (eqb-true s.point.contract.billing 2 (not-false _ q.meter)) (rw q.first at u.billing);
       control = u.control;
     }
 
-spare_control_volume : (s : State) (v : ℕ) → Unused s → accepted s (control_volume v) ≡ true → Unused (accept s (control_volume v))
-unfolding own_refusal accept
+spare_control_volume : (s : State) (v : ℕ) → Unused s → accepted s (read (control_volume v)) ≡ true → Unused (after_reading s (control_volume v))
+unfolding reading_number own_refusal after_reading
 spare_control_volume s v u t =
-    let q = reading_passed (call_passed s (control_volume v) t).own in
+    let q = reading_passed (call_passed s (read (control_volume v)) t).own in
     record {
       months = u.months;
       billing = u.billing;
       control = rw (eqb-true s.point.contract.control 2 (not-false _ q.meter)) (rw q.first at u.control);
     }
 
-spare_neighbour : (s : State) (source v : ℕ) → Unused s → Unused (accept s (neighbour source v))
-unfolding accept
+spare_neighbour : (s : State) (source v : ℕ) → Unused s → Unused (after_reading s (neighbour source v))
+unfolding after_reading
 spare_neighbour s source v u =
     by_cases (eqb source 1)
     (λ y. rw y (record { months = u.months; billing = u.billing; control = u.control }))
@@ -158,8 +159,9 @@ unfolding accept closed_with inputs
 spare_closing s marks buffer f u t =
     let d = s.point.date in
     let out = rules (inputs s marks) in
-    let m = open_month s.point f.record_fits (call_passed s (closing marks buffer) t).not_over in
-    let long : length out.hours ≡ open_hours d = (rules_right (inputs s marks) (inputs_fit s marks buffer t)).long in
+    let c = settled s marks buffer t in
+    let m = c.month in
+    let long : length out.hours ≡ open_hours d = (closing_right c).long in
     let short : length out.hours ≤ 744 = omega (arith, long, month_hours_lem d m, days_high d) in
     let filed : List ℕ = rows_after (becomes_past out) out.hours d s.store in
     let size : length filed ≡ 10416 =
@@ -183,17 +185,24 @@ spare_closing s marks buffer f u t =
     }
 
 -- EVERY ACCEPTED CALL
-pub call_spare : (s : State) (c : Call) → StateFits s → Unused s → accepted s c ≡ true → Unused (accept s c)
-unfolding accept
-call_spare s (billing_hours hs) f u t = spare_billing_hours s hs f u t
-call_spare s (control_hours hs) f u t = spare_control_hours s hs f u t
-call_spare s (billing_volume v) f u t = spare_billing_volume s v u t
-call_spare s (control_volume v) f u t = spare_control_volume s v u t
-call_spare s (neighbour source v) f u t = spare_neighbour s source v u
-call_spare s (failure reason) f u t = spare_discarded _ f.words (spare_served s _ u refl refl refl refl refl)
-call_spare s admission f u t = spare_served s _ u refl refl refl refl refl
-call_spare s denial f u t =
+reading_spare : (s : State) (x : MeterReading) → StateFits s → Unused s → accepted s (read x) ≡ true → Unused (after_reading s x)
+reading_spare s (billing_hours hs) f u t = spare_billing_hours s hs f u t
+reading_spare s (control_hours hs) f u t = spare_control_hours s hs f u t
+reading_spare s (billing_volume v) f u t = spare_billing_volume s v u t
+reading_spare s (control_volume v) f u t = spare_control_volume s v u t
+reading_spare s (neighbour source v) f u t = spare_neighbour s source v u
+
+report_spare : (s : State) (x : Report) → StateFits s → Unused s → Unused (after_report s x)
+unfolding after_report
+report_spare s (failure reason) f u = spare_discarded _ f.words (spare_served s _ u refl refl refl refl refl)
+report_spare s admission f u = spare_served s _ u refl refl refl refl refl
+report_spare s denial f u =
     let one = spare_served s (one_denial s) u refl refl refl refl refl in
     by_cases (eqb s.point.service.denials 1) (λ y. rw y (spare_discarded (one_denial s) f.words one)) (λ n. rw n one)
-call_spare s permission f u t = spare_served s _ u refl refl refl refl refl
+report_spare s permission f u = spare_served s _ u refl refl refl refl refl
+
+pub call_spare : (s : State) (c : Call) → StateFits s → Unused s → accepted s c ≡ true → Unused (accept s c)
+unfolding accept
+call_spare s (read x) f u t = reading_spare s x f u t
+call_spare s (report x) f u t = report_spare s x f u
 call_spare s (closing marks buffer) f u t = spare_closing s marks buffer f u t

@@ -1,5 +1,5 @@
 -- The model of a point: what each call answers, and the record and store that it leaves (document 01, 'What a point keeps' and 'Closing').
-use Rattle.std.specs.Prelude.{ℕ, ◌+◌, ◌-◌, ◌≡◌, Bool, not, cond, ◌&&◌, List, [], length, set, eqb, leb}
+use Rattle.std.specs.Prelude.{ℕ, ◌+◌, ◌-◌, ◌≡◌, Bool, not, cond, ◌&&◌, List, [], length, set, eqb, leb, Option, option_map}
 use Rattle.numbers.specs.Lists.{at}
 use Rattle.calendar.specs.declared.Date.{Date}
 use Rattle.calendar.specs.Calendar.{open_hours, month_number, date_of, next_month}
@@ -13,8 +13,8 @@ use Rattle.record.specs.Record.{is_set, kwh, not_given, given_as, no_readings, w
 use Rattle.record.specs.Record.{with_control, with_first, with_second}
 use Rattle.store.specs.Store.{as_row, with_hours, without_hours}
 use Rattle.rules.specs.declared.Figures.{Figures}
-use Rattle.rules.specs.Calls.{Call, billing_hours, control_hours, billing_volume, control_volume, neighbour, failure, admission, denial, permission}
-use Rattle.rules.specs.Calls.{closing, buffer_of, is_fault}
+use Rattle.rules.specs.Calls.{MeterReading, billing_hours, control_hours, billing_volume, control_volume, neighbour}
+use Rattle.rules.specs.Calls.{Report, failure, admission, denial, permission, Call, read, report, closing, is_closing, marks_of, buffer_of, is_fault}
 use Rattle.rules.specs.Rules.{Measured, missing, hourly, whole, Stated, PastHours, Inputs, Outcome}
 use Rattle.rules.specs.Rules.{counted_of, neighbour_of, rules, becomes_past, figures, no_figures}
 use Rattle.model.specs.declared.Answer.{Answer}
@@ -78,19 +78,21 @@ row_hours s d = row_part s.store (row_of d) (open_hours d)
 abbrev pub last_year : Date → Date
 last_year d = record { year = d.year - 1; month = d.month }
 
--- the past is the row of the same month last year, if it holds that year; else the latest past month; else none
+-- the past month is the same month last year, if its row holds that year; else the latest past month; else none
+unfoldable pub past_month : Record → Option Date
+past_month r =
+    cond (eqb (at r.past.years (row_of r.date)) (r.date.year - 1)) (Some (last_year r.date))
+    (cond (eqb r.past.latest 0) None (Some (date_of r.past.latest)))
+
+-- the past is the hours in its row
 unfoldable pub past_in : State → PastHours
-past_in s =
-    cond (eqb (at s.point.past.years (row_of s.point.date)) (s.point.date.year - 1))
-    (Some (row_hours s (last_year s.point.date)))
-    (cond (eqb s.point.past.latest 0) None (Some (row_hours s (date_of s.point.past.latest))))
+past_in s = option_map (row_hours s) (past_month s.point)
 
 -- what counts at a closing, from the record and the store: only the state at closing counts for the whole month (H)
 unfoldable pub inputs : State → List ℕ → Inputs
 inputs s marks =
     record {
       contract = s.point.contract;
-      date = s.point.date;
       marks = marks;
       counted = counted_of s.point.service.run s.point.service.denials;
       billing = measured_in s.point.contract.billing s.point.readings.billing (row_part s.store 12 (open_hours s.point.date));
@@ -131,20 +133,26 @@ closed_with u s =
     state (point_after (becomes_past u) u.volume s.point) (store_after (becomes_past u) u.hours s.point.date s.store)
 
 -- WHAT AN ACCEPTED CALL LEAVES. A reading is given, with the volume of an integral or neighbour one; hours are written only into their own row
-unfoldable pub accept : State → Call → State
-accept s (billing_hours hs) = state (with_readings s.point (with_billing s.point.readings (given_as 0))) (with_hours 12 hs s.store)
-accept s (control_hours hs) = state (with_readings s.point (with_control s.point.readings (given_as 0))) (with_hours 13 hs s.store)
-accept s (billing_volume v) = state (with_readings s.point (with_billing s.point.readings (given_as v))) s.store
-accept s (control_volume v) = state (with_readings s.point (with_control s.point.readings (given_as v))) s.store
-accept s (neighbour source v) = state (with_readings s.point (with_source s.point.readings source (given_as v))) s.store
-accept s (failure reason) =
+unfoldable pub after_reading : State → MeterReading → State
+after_reading s (billing_hours hs) = state (with_readings s.point (with_billing s.point.readings (given_as 0))) (with_hours 12 hs s.store)
+after_reading s (control_hours hs) = state (with_readings s.point (with_control s.point.readings (given_as 0))) (with_hours 13 hs s.store)
+after_reading s (billing_volume v) = state (with_readings s.point (with_billing s.point.readings (given_as v))) s.store
+after_reading s (control_volume v) = state (with_readings s.point (with_control s.point.readings (given_as v))) s.store
+after_reading s (neighbour source v) = state (with_readings s.point (with_source s.point.readings source (given_as v))) s.store
+
+unfoldable pub after_report : State → Report → State
+after_report s (failure reason) =
     discarded (state (with_service s.point (after_failure s.point.service s.point.date reason)) s.store)
 -- back in service
-accept s admission = state (with_service s.point (with_serving s.point.service 1)) s.store
+after_report s admission = state (with_service s.point (with_serving s.point.service 1)) s.store
 -- the second denial discards this month's billing reading
-accept s denial = cond (eqb s.point.service.denials 1) (discarded (one_denial s)) (one_denial s)
+after_report s denial = cond (eqb s.point.service.denials 1) (discarded (one_denial s)) (one_denial s)
 -- denials 0
-accept s permission = state (with_service s.point (with_denials s.point.service 0)) s.store
+after_report s permission = state (with_service s.point (with_denials s.point.service 0)) s.store
+
+unfoldable pub accept : State → Call → State
+accept s (read reading) = after_reading s reading
+accept s (report what) = after_report s what
 accept s (closing marks buffer) = closed_with (rules (inputs s marks)) s
 
 -- THE NUMBER that a call returns, 0 where it is accepted
@@ -162,31 +170,12 @@ leaves s c = cond (accepted s c) (accept s c) s
 abbrev pub without_figures : ℕ → Record → Answer
 without_figures number r = record { refusal = number; after = r; figures = no_figures }
 
--- the figures and the hours of an accepted call; only a closing has any
+-- the figures and the hours of an accepted call; only a closing has any. The hour buffer has 744 words, 0 from T on
 unfoldable pub figures_of : State → Call → Figures
-figures_of s (billing_hours hs) = no_figures
-figures_of s (control_hours hs) = no_figures
-figures_of s (billing_volume v) = no_figures
-figures_of s (control_volume v) = no_figures
-figures_of s (neighbour source v) = no_figures
-figures_of s (failure reason) = no_figures
-figures_of s admission = no_figures
-figures_of s denial = no_figures
-figures_of s permission = no_figures
-figures_of s (closing marks buffer) = figures (rules (inputs s marks)) marks
+figures_of s c = cond (is_closing c) (figures (rules (inputs s (marks_of c))) (marks_of c)) no_figures
 
 unfoldable pub hours_out : State → Call → List ℕ
-hours_out s (billing_hours hs) = []
-hours_out s (control_hours hs) = []
-hours_out s (billing_volume v) = []
-hours_out s (control_volume v) = []
-hours_out s (neighbour source v) = []
-hours_out s (failure reason) = []
-hours_out s admission = []
-hours_out s denial = []
-hours_out s permission = []
--- the hour buffer has 744 words, 0 from T on
-hours_out s (closing marks buffer) = as_row (rules (inputs s marks)).hours
+hours_out s c = cond (is_closing c) (as_row (rules (inputs s (marks_of c))).hours) []
 
 -- THE ANSWER: a refused call returns the record given, with ground and figures 0
 unfoldable pub answer : State → Call → Answer

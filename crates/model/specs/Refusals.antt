@@ -10,8 +10,8 @@ use Rattle.record.specs.declared.Service.{Service}
 use Rattle.record.specs.Record.{is_set}
 use Rattle.validity.specs.Valid.{valid, volume_limit}
 use Rattle.store.specs.Store.{store_fits}
-use Rattle.rules.specs.Calls.{Opening, Call, billing_hours, control_hours, billing_volume, control_volume, neighbour, failure, admission, denial}
-use Rattle.rules.specs.Calls.{permission, closing}
+use Rattle.rules.specs.Calls.{Opening, MeterReading, billing_hours, control_hours, billing_volume, control_volume, neighbour}
+use Rattle.rules.specs.Calls.{Report, failure, admission, denial, permission, Call, read, report, closing}
 
 -- the number where the test holds, else the rest of the list
 unfoldable pub refuse : Bool → ℕ → ℕ → ℕ
@@ -125,15 +125,21 @@ closing_number r store marks buffer =
     -- 45 a word above 3,000,000 in rows 0 to 11, or above 1,000,000 in 12 or 13
     (refuse (not (store_fits store)) 45 0)))))
 
--- the call's own number, after anyone's
+-- the number of a reading, of a report, and of any call, after anyone's
+unfoldable pub reading_number : Record → MeterReading → ℕ
+reading_number r (billing_hours hours) = billing_hours_number r hours
+reading_number r (control_hours hours) = control_hours_number r hours
+reading_number r (billing_volume v) = billing_volume_number r v
+reading_number r (control_volume v) = control_volume_number r v
+reading_number r (neighbour source v) = neighbour_number r source v
+
+unfoldable pub report_number : Record → Report → ℕ
+report_number r (failure reason) = failure_number r reason
+report_number r admission = admission_number r
+report_number r denial = denial_number r
+report_number r permission = permission_number r
+
 unfoldable pub own_refusal : Record → List ℕ → Call → ℕ
-own_refusal r store (billing_hours hours) = billing_hours_number r hours
-own_refusal r store (control_hours hours) = control_hours_number r hours
-own_refusal r store (billing_volume v) = billing_volume_number r v
-own_refusal r store (control_volume v) = control_volume_number r v
-own_refusal r store (neighbour source v) = neighbour_number r source v
-own_refusal r store (failure reason) = failure_number r reason
-own_refusal r store admission = admission_number r
-own_refusal r store denial = denial_number r
-own_refusal r store permission = permission_number r
+own_refusal r store (read reading) = reading_number r reading
+own_refusal r store (report what) = report_number r what
 own_refusal r store (closing marks buffer) = closing_number r store marks buffer

@@ -6,7 +6,7 @@ use Rattle.record.specs.declared.Reading.{Reading}
 use Rattle.record.specs.declared.Readings.{Readings}
 use Rattle.record.specs.declared.Record.{Record}
 use Rattle.record.specs.Record.{is_set, with_billing, with_control}
-use Rattle.rules.specs.Calls.{Call, billing_hours, control_hours, billing_volume, control_volume}
+use Rattle.rules.specs.Calls.{billing_hours, control_hours, billing_volume, control_volume, Call, read}
 use Rattle.model.specs.declared.refusals.Refusal.{Refusal}
 use Rattle.model.specs.Refusals.{refuse, refuse_anyone, is_barred, is_source}
 use Rattle.model.specs.Refused.{number_or}
@@ -43,12 +43,12 @@ bars Control s = false
 
 -- the calls that read it
 abbrev pub hours_call : Meter → List ℕ → Call
-hours_call Billing hours = billing_hours hours
-hours_call Control hours = control_hours hours
+hours_call Billing hours = read (billing_hours hours)
+hours_call Control hours = read (control_hours hours)
 
 abbrev pub volume_call : Meter → ℕ → Call
-volume_call Billing v = billing_volume v
-volume_call Control v = control_volume v
+volume_call Billing v = read (billing_volume v)
+volume_call Control v = read (control_volume v)
 
 -- the kind of a meter that is read in hours, and of one that is read in a volume
 abbrev pub form_kind : Form → ℕ

@@ -3,7 +3,8 @@
 
 ghost use Rattle.std.specs.Prelude.{◌≡◌, ℕ, [], ◌≤◌, OnOk};
 ghost use Rattle.record.specs.Record.{with_readings};
-ghost use Rattle.rules.specs.Calls.Call.{billing_hours, billing_volume, control_hours, control_volume, neighbour};
+ghost use Rattle.rules.specs.Calls.MeterReading.{billing_hours, billing_volume, control_hours, control_volume, neighbour};
+ghost use Rattle.rules.specs.Calls.Call.{read};
 ghost use Rattle.model.specs.Refusals.{refuse, hour_above, volume_above, source_given};
 ghost use Rattle.model.specs.Model.{state, with_source, Does};
 ghost use Rattle.model.specs.Refused.{number_or, Gives};
@@ -190,7 +191,7 @@ fn try_volume(r: Record, store: &[u32], meter: Meter, volume: Kwh) -> Result<Rec
 // The source is the number that C gives, and is judged behind 1 to 3.
 #[tactic(auto, unfolding(model::proofs::Laws::call_definitions))]
 fn try_neighbour(r: Record, store: &[u32], source: u32, volume: Kwh) -> Result<Record, Refusal>
-    ensures { Gives (state r store.now) (neighbour source volume.0) result store.now }
+    ensures { Gives (state r store.now) (read (neighbour source volume.0)) result store.now }
 {
     check_anyone(store.len(), r)?;
     let source = Source::try_from(source)?;
@@ -203,7 +204,7 @@ fn try_neighbour(r: Record, store: &[u32], source: u32, volume: Kwh) -> Result<R
 // four stay apart; the tests and the writing are two functions.
 #[tactic(auto, using(model::proofs::Laws::call_does), unfolding(model::proofs::Laws::call_definitions))]
 pub fn read_billing_hours(r: Record, store: &mut [u32], hours: &[u32]) -> Answer
-    ensures { Does (state r store.old) (billing_hours hours.now) result store.new [] }
+    ensures { Does (state r store.old) (read (billing_hours hours.now)) result store.new [] }
 {
     answer_of(try_hours(r, store, Meter::Billing, hours), r)
 }
@@ -211,7 +212,7 @@ pub fn read_billing_hours(r: Record, store: &mut [u32], hours: &[u32]) -> Answer
 // The hours of an interval control meter.
 #[tactic(auto, using(model::proofs::Laws::call_does), unfolding(model::proofs::Laws::call_definitions))]
 pub fn read_control_hours(r: Record, store: &mut [u32], hours: &[u32]) -> Answer
-    ensures { Does (state r store.old) (control_hours hours.now) result store.new [] }
+    ensures { Does (state r store.old) (read (control_hours hours.now)) result store.new [] }
 {
     answer_of(try_hours(r, store, Meter::Control, hours), r)
 }
@@ -219,7 +220,7 @@ pub fn read_control_hours(r: Record, store: &mut [u32], hours: &[u32]) -> Answer
 // The volume of an integral billing meter.
 #[tactic(auto, using(model::proofs::Laws::call_does), unfolding(model::proofs::Laws::call_definitions))]
 pub fn read_billing_volume(r: Record, store: &[u32], volume: Kwh) -> Answer
-    ensures { Does (state r store.now) (billing_volume volume.0) result store.now [] }
+    ensures { Does (state r store.now) (read (billing_volume volume.0)) result store.now [] }
 {
     answer_of(try_volume(r, store, Meter::Billing, volume), r)
 }
@@ -227,7 +228,7 @@ pub fn read_billing_volume(r: Record, store: &[u32], volume: Kwh) -> Answer
 // The volume of an integral control meter.
 #[tactic(auto, using(model::proofs::Laws::call_does), unfolding(model::proofs::Laws::call_definitions))]
 pub fn read_control_volume(r: Record, store: &[u32], volume: Kwh) -> Answer
-    ensures { Does (state r store.now) (control_volume volume.0) result store.now [] }
+    ensures { Does (state r store.now) (read (control_volume volume.0)) result store.now [] }
 {
     answer_of(try_volume(r, store, Meter::Control, volume), r)
 }
@@ -235,7 +236,7 @@ pub fn read_control_volume(r: Record, store: &[u32], volume: Kwh) -> Answer
 // A neighbour's volume, of source 1, its billing meter, or 2, its control meter; C gives the source as a number, which 20 judges.
 #[tactic(auto, using(model::proofs::Laws::call_does), unfolding(model::proofs::Laws::call_definitions))]
 pub fn read_neighbour(r: Record, store: &[u32], source: u32, volume: Kwh) -> Answer
-    ensures { Does (state r store.now) (neighbour source volume.0) result store.now [] }
+    ensures { Does (state r store.now) (read (neighbour source volume.0)) result store.now [] }
 {
     answer_of(try_neighbour(r, store, source, volume), r)
 }

@@ -15,12 +15,11 @@ use Rattle.contract.specs.Contract.{no_cable, power_of}
 use Rattle.record.specs.declared.Record.{Record}
 use Rattle.record.specs.Record.{kwh, no_readings, fresh_record, fresh_service, with_service, with_readings, with_past, with_serving, with_denials, with_billing}
 use Rattle.rules.specs.Rules.{Measured, missing, hourly, whole, PastHours, Inputs, counted_of, neighbour_of}
-use Rattle.model.specs.Model.{state, measured_in, stated_in, past_in, inputs}
+use Rattle.model.specs.Model.{state, measured_in, stated_in, past_month, past_in, inputs}
 use Rattle.std.specs.Prelude.{None, Some}
 use Rattle.rules.specs.Grounds.{clause_number}
 use Rattle.rules.specs.declared.Clause.TheVariants.{Missed, DeniedTwice, OutOfService}
-use Rattle.grounds.specs.Found.{past_month}
-use Rattle.reasons.specs.Reasons.{clause_of, volume_read, compared_past, compared_control, compared_billing, compared_in, reasons_of}
+use Rattle.reasons.specs.Reasons.{clause_of, volume_read, compared_past, compared_by, compared_in, reasons_of}
 
 abbrev pub on : ℕ → ℕ → Date
 on y m = record { year = y; month = m }
@@ -68,15 +67,15 @@ unfolding past_month date_of
 pasts = (refl, refl, refl, refl, refl)
 
 unfoldable pub reason_definitions : Unit {0}
-unfolding reasons_of clause_of volume_read past_month compared_in compared_billing compared_control compared_past inputs measured_in stated_in past_in
+unfolding reasons_of clause_of volume_read past_month compared_in compared_by compared_past inputs measured_in stated_in past_in
     counted_of neighbour_of power_of
     open_hours month_hours month_days is_month leap_year date_of formula half_up peak_count capacity_sum portion taken spread shares_over stretched
 reason_definitions = tt
 
--- January 2023 with marks, R, billing and control readings, N, past
-abbrev pub january : List ℕ → ℕ → Measured → Measured → ℕ → PastHours → Inputs
-january marks r b k n past =
-    record { contract = contract; date = on 2023 1; marks = marks; counted = r; billing = b; control = k; neighbour = n; past = past }
+-- marks, R, billing and control readings, N, past
+abbrev pub inputs_with : List ℕ → ℕ → Measured → Measured → ℕ → PastHours → Inputs
+inputs_with marks r b k n past =
+    record { contract = contract; marks = marks; counted = r; billing = b; control = k; neighbour = n; past = past }
 
 -- a past of 5 kWh; and C' of a day with one peak and capacity hour, hour 10
 abbrev row : PastHours
@@ -87,9 +86,11 @@ marked m = set (zeros 24) 10 m
 
 -- no C' with R 2, without peak hours, without a past, and with any other reading than K. Values of it are in the crate `whole_months`
 sums :
-    (compared_in (january (marked 3) 2 missing (whole 20) 4 row) ≡ None) × (compared_in (january (marked 2) 3 missing (whole 20) 4 row) ≡ None)
-    × (compared_in (january (marked 3) 3 missing (whole 20) 4 None) ≡ None) × (compared_in (january (marked 3) 3 (whole 20) (whole 20) 4 row) ≡ None)
-    × (compared_in (january (marked 3) 3 missing (hourly (5 ∷ [])) 4 row) ≡ None) × (compared_in (january (marked 3) 3 missing missing 4 row) ≡ None)
+    (compared_in (inputs_with (marked 3) 2 missing (whole 20) 4 row) ≡ None) × (compared_in (inputs_with (marked 2) 3 missing (whole 20) 4 row) ≡ None)
+    × (compared_in (inputs_with (marked 3) 3 missing (whole 20) 4 None) ≡ None)
+    × (compared_in (inputs_with (marked 3) 3 (whole 20) (whole 20) 4 row) ≡ None)
+    × (compared_in (inputs_with (marked 3) 3 missing (hourly (5 ∷ [])) 4 row) ≡ None)
+    × (compared_in (inputs_with (marked 3) 3 missing missing 4 row) ≡ None)
 unfolding reason_definitions
 sums = (refl, refl, refl, refl, refl, refl)
 

@@ -5,11 +5,10 @@ use Rattle.marks.specs.Marks.{capacity_sum}
 use Rattle.record.specs.declared.Record.{Record}
 use Rattle.record.specs.Record.{is_set, kwh}
 use Rattle.rules.specs.Rules.{Measured, missing, hourly, whole, PastHours, Inputs, hours_in, peaks_in, point_power}
-use Rattle.model.specs.Model.{State, inputs}
+use Rattle.model.specs.Model.{State, past_month, inputs}
 use Rattle.rules.specs.declared.Clause.{Clause}
 use Rattle.rules.specs.declared.Clause.TheVariants.{Missed, DeniedTwice, OutOfService}
 use Rattle.rules.specs.declared.Reasons.{Reasons}
-use Rattle.grounds.specs.Found.{past_month}
 
 -- the point of document 000: none with a billing reading; else 178 with denials 2; else 179 out of service; else 166
 unfoldable pub clause_of : Record → Option Clause
@@ -31,18 +30,15 @@ compared_past i v None = None
 compared_past i v (Some hs) =
     cond (leb 3 i.counted && ltb 0 (peaks_in i)) (Some (capacity_sum i.marks (shares v (stretched hs (hours_in i))))) None
 
-unfoldable pub compared_control : Inputs → Measured → Option ℕ
-compared_control i missing = None
-compared_control i (hourly hs) = None
-compared_control i (whole k) = compared_past i (k - i.neighbour) i.past
-
-unfoldable pub compared_billing : Inputs → Measured → Option ℕ
-compared_billing i missing = compared_control i i.control
-compared_billing i (hourly hs) = None
-compared_billing i (whole b) = None
+unfoldable pub compared_by : Inputs → Measured → Measured → Option ℕ
+compared_by i missing (whole k) = compared_past i (k - i.neighbour) i.past
+compared_by i missing (hourly hs) = None
+compared_by i missing missing = None
+compared_by i (hourly hs) control = None
+compared_by i (whole b) control = None
 
 unfoldable pub compared_in : Inputs → Option ℕ
-compared_in i = compared_billing i i.billing
+compared_in i = compared_by i i.billing i.control
 
 -- THE REASONS of a closing with these marks: the point of document 000, B or K, N, P, n, the run and the denials, R, the past month and C'
 unfoldable pub reasons_of : State → List ℕ → Reasons

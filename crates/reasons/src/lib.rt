@@ -4,35 +4,37 @@
 ghost use Rattle.std.specs.Prelude.{◌≡◌, cond, length, None, Some};
 ghost use Rattle.rules.specs.Calls.Call.{closing};
 ghost use Rattle.model.specs.Model.{state, accepted};
+ghost use Rattle.model.specs.Settled.{Settled};
 ghost use Rattle.reasons.specs.Reasons.{reasons_of};
 
 mod parts;
 
 use closing::check_closing;
-use first_ground::ClosingMonth;
-use grounds::past::past_month;
+use counts::counts_of;
+use counts::past::past_month;
 use marks::survey_marks;
 use parts::{clause_of, compared, volume_read};
 use record::Record;
 use rules::Reasons;
 
 // The reasons of a closing that is accepted.
-fn all_reasons(month: &ClosingMonth<'_>, hours: &mut [u32]) -> Reasons
-    requires { length hours.old ≡ 744 }
-    ensures { result ≡ reasons_of (state month.now.point month.now.store.now) month.now.marks.now }
+fn settled_reasons(r: Record, store: &[u32], marks: &[u8], hours: &mut [u32]) -> Reasons
+    requires settled { Settled r store.now marks.now }
+    requires room { length hours.old ≡ 744 }
+    ensures { result ≡ reasons_of (state r store.now) marks.now }
 {
-    let service = month.point.service;
+    let counts = counts_of(r, store, marks, survey_marks(marks));
     Reasons {
-        clause: clause_of(month.point),
-        reading: volume_read(month.point),
-        neighbour: month.neighbour(),
-        power: month.power(),
-        peaks: month.survey.peaks,
-        run: service.run,
-        denials: service.denials,
-        counted: month.counted(),
-        past: past_month(month.point),
-        compared: compared(month, hours),
+        clause: clause_of(r),
+        reading: volume_read(&counts),
+        neighbour: counts.neighbour,
+        power: counts.power(),
+        peaks: counts.survey.peaks,
+        run: r.service.run,
+        denials: r.service.denials,
+        counted: counts.counted,
+        past: past_month(r),
+        compared: compared(&counts, hours),
     }
 }
 
@@ -45,15 +47,7 @@ pub fn reasons_of(r: Record, store: &[u32], marks: &[u8], hours: &mut [u32]) -> 
         (Some (reasons_of (state r store.now) marks.now)) None }
 {
     match check_closing(r, store, marks, hours) {
-        Ok(()) => {
-            let month = ClosingMonth {
-                point: r,
-                store,
-                marks,
-                survey: survey_marks(marks),
-            };
-            Some(all_reasons(&month, hours))
-        }
+        Ok(()) => Some(settled_reasons(r, store, marks, hours)),
         Err(_) => None,
     }
 }

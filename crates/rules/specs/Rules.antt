@@ -1,9 +1,8 @@
 -- The rules under Closing (document 01): from what counts at a closing to its ground, hours, exact shares, month volume and figures.
 -- Who asks says where the inputs come from: a point takes them from its record and store, the book looks back for them.
-use Rattle.std.specs.Prelude.{ℕ, Option, None, Some, ◌+◌, ◌-◌, ◌*◌, ◌/◌, Bool, true, false, cond, ◌&&◌, ◌||◌, List, length, eqb, leb, ltb}
+use Rattle.std.specs.Prelude.{ℕ, Option, None, Some, ◌+◌, ◌-◌, ◌*◌, ◌/◌, Bool, true, false, cond, ◌&&◌, ◌||◌, List, length, eqb}
+use Rattle.std.specs.Prelude.{leb, ltb}
 use Rattle.numbers.specs.Lists.{sum_to, sum, at}
-use Rattle.calendar.specs.declared.Date.{Date}
-use Rattle.calendar.specs.Calendar.{open_hours}
 use Rattle.sharing.specs.Shares.{ones, taken, every, shares, stretched}
 use Rattle.power.specs.Power.{formula}
 use Rattle.marks.specs.Marks.{peak_at, peak_count, working_days, capacity_sum, capacity_of}
@@ -26,10 +25,9 @@ Stated = Option ℕ
 abbrev pub PastHours : Type 0
 PastHours = Option (List ℕ)
 
--- what counts at a closing
+-- what counts at a closing, of a month or of any whole days: no date counts, since number 40 has made the marks as many as the hours
 pub record Inputs : Type 0 where
   pub contract : Contract
-  pub date : Date
   pub marks : List ℕ
   -- R: the missed months that count, this one included
   pub counted : ℕ
@@ -70,7 +68,7 @@ neighbour_of None None = 0
 
 -- T, n and P at a closing, and d of its marks
 abbrev pub hours_in : Inputs → ℕ
-hours_in i = open_hours i.date
+hours_in i = length i.marks
 
 abbrev pub peaks_in : Inputs → ℕ
 peaks_in i = peak_count i.marks
@@ -130,12 +128,16 @@ unfoldable pub ground_six_in : Inputs → ℕ → List ℕ → Bool
 ground_six_in i v hs =
     ground_six (peak_part v (point_power i) i.marks) (days_in i.marks) (peaks_in i) (capacity_sum i.marks hs)
 
--- GROUNDS 4 TO 6: control, integral, V. R at most 2 and past: shared by the past; R at least 3, past and the test: the same; otherwise the peak rule
+-- GROUNDS 5 AND 6: R at least 3, past and the test: as ground 4; otherwise the peak rule
+unfoldable pub on_tested_past : Inputs → ℕ → List ℕ → Outcome
+on_tested_past i v past = cond (ground_six_in i v (shares v past)) (by_weights 6 v past) (by_peaks 5 i v)
+
+-- GROUNDS 4 TO 6: control, integral, V. R at most 2 and past: shared by the past; else 5 and 6; without a past the peak rule
 unfoldable pub on_control_past : Inputs → ℕ → PastHours → Outcome
 on_control_past i v None = by_peaks 5 i v
 on_control_past i v (Some hs) =
     let past : List ℕ = stretched hs (hours_in i) in
-    cond (leb i.counted 2) (by_weights 4 v past) (cond (ground_six_in i v (shares v past)) (by_weights 6 v past) (by_peaks 5 i v))
+    cond (leb i.counted 2) (by_weights 4 v past) (on_tested_past i v past)
 
 -- GROUND 3: control, interval, as read; else 4 to 6 with V = max(0, K - N); else 7 to 9
 unfoldable pub on_control : Inputs → Measured → Outcome

@@ -14,7 +14,7 @@ use lib.Seq.{ext_get_or, get_or-take, get_or-drop, get_or-append-add, take_at, d
 use Rattle.std.proofs.lemmas.List.{drop-replicate}
 use Rattle.numbers.specs.Lists.{at, zeros, padded, none_above}
 use Rattle.numbers.proofs.Laws.{both, none_above_at, none_above_from, at_zeros, at_more}
-use Rattle.store.specs.Store.{row_part, row_fits, as_row, put_row, written_in, read_from, empty_store, store_fits}
+use Rattle.store.specs.Store.{row_fits, as_row, put_row, written_in, empty_store, store_fits}
 
 -- a list copied over the front of zeros
 pub copied : {d part : List ℕ} (m : ℕ) (xs : List ℕ) → part ≡ xs → d ≡ zeros m → part ++ drop (length xs) d ≡ padded m xs
@@ -62,26 +62,6 @@ pub written_in_lem : (r : ℕ) (hours store : List ℕ) → r ≤ 13 → length 
     → written_in r hours store ≡ put_row r (as_row hours) store
 unfolding written_in row_fits
 written_in_lem r hours store row long size = rw (eq-eqb (length store) 10416 size, le-leb r 13 row, le-leb (length hours) 744 long)
-
--- the test of a row that is read into a buffer of so many words
-pub record ReadsRow (words r t long : ℕ) : Type 0 where
-  pub size : words ≡ 10416
-  pub row : r ≤ 13
-  pub hours : t ≤ 744
-  pub room : t ≤ long
-
-pub read_there : (size r t room : ℕ) → row_fits size r t && leb t room ≡ true → ReadsRow size r t room
-read_there size r t room e =
-    let p = both (row_fits size r t) (leb t room) e in
-    let fits = row_fits_lem p.0 in
-    record { size = fits.size; row = fits.row; hours = fits.hours; room = leb-true _ _ p.1 }
-
--- what is read of a row and into a buffer that are there
-pub read_from_lem : (store : List ℕ) (r t : ℕ) (buffer : List ℕ) → length store ≡ 10416 → r ≤ 13 → t ≤ 744 → t ≤ length buffer
-    → read_from store r t buffer ≡ padded (length buffer) (row_part store r t)
-unfolding read_from row_fits
-read_from_lem store r t buffer size row few room =
-    rw (eq-eqb (length store) 10416 size, le-leb r 13 row, le-leb t 744 few, le-leb t (length buffer) room)
 
 -- the part of the store from the row's start to its end, filled and put back
 pub written_part : (r : ℕ) (hours store filled : List ℕ) → RowFits (length store) r (length hours)

@@ -29,10 +29,6 @@ without_hours r store = with_hours r [] store
 unfoldable pub written_in : ℕ → List ℕ → List ℕ → List ℕ
 written_in r hours store = cond (row_fits (length store) r (length hours)) (with_hours r hours store) store
 
--- a buffer with the first t hours of row r, and 0 from t on, where the store has that row and the buffer holds so many hours; else the buffer as it was
-unfoldable pub read_from : List ℕ → ℕ → ℕ → List ℕ → List ℕ
-read_from store r t buffer = cond (row_fits (length store) r t && leb t (length buffer)) (padded (length buffer) (row_part store r t)) buffer
-
 -- as an opening leaves it
 abbrev pub empty_store : List ℕ
 empty_store = zeros 10416

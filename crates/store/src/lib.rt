@@ -4,7 +4,7 @@
 
 ghost use Rattle.std.specs.Prelude.{◌≡◌, true, cond, ◌&&◌, [], ◌≤◌, eqb, length};
 ghost use Rattle.numbers.specs.Lists.{padded};
-ghost use Rattle.store.specs.Store.{row_part, row_fits, written_in, read_from, empty_store, store_fits};
+ghost use Rattle.store.specs.Store.{row_part, row_fits, written_in, empty_store, store_fits};
 
 use numbers::{clear, none_above};
 
@@ -16,9 +16,9 @@ pub fn row_fits(size: usize, row: usize, t: usize) -> bool
     (size == 10416) & (row <= 13) & (t <= 744)
 }
 
-// A list of hours into a row, and 0 from its end on.
+// A list of hours into a row, or into the hour buffer, which is as long as a row, and 0 from its end on.
 #[tactic(auto, using(crate::proofs::Laws::copied))]
-fn copy_row(row: &mut [u32], hours: &[u32])
+pub fn copy_row(row: &mut [u32], hours: &[u32])
     requires { length hours.now ≤ length row.old }
     ensures { row.new ≡ padded (length row.old) hours.now }
 {
@@ -39,8 +39,7 @@ pub fn write_row(store: &mut [u32], row: usize, hours: &[u32])
     }
 }
 
-// The first t hours of a row that the store has, as a part of it. Row and hours are numbers beside the store, which is one
-// list in C; where a past month names them they are `PastMonth`.
+// The first t hours of a row that the store has, as a part of it.
 #[tactic(auto, using(crate::proofs::Laws::row_fits_lem))]
 pub fn row_hours(store: &[u32], row: usize, t: usize) -> &[u32]
     requires { row_fits (length store.now) row t ≡ true }
@@ -49,17 +48,6 @@ pub fn row_hours(store: &[u32], row: usize, t: usize) -> &[u32]
     let start = 744 * row;
     let end = start + t;
     &store[start..end]
-}
-
-// The first t hours of row r into a buffer, with 0 from t on. A store that is not 14 rows, a row that it does not have, and
-// more hours than a row or the buffer holds leave the buffer as it was.
-#[tactic(auto, using(crate::proofs::Laws::read_there), unfolding(crate::specs::Store::read_from))]
-pub fn read_row(store: &[u32], row: usize, t: usize, hours: &mut [u32])
-    ensures { hours.new ≡ read_from store.now row t hours.old }
-{
-    if row_fits(store.len(), row, t) && t <= hours.len() {
-        copy_row(hours, row_hours(store, row, t));
-    }
 }
 
 // Row r becomes 0, and the rest stays.

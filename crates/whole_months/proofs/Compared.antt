@@ -10,7 +10,7 @@ use Rattle.model.specs.Model.{state}
 use Rattle.std.specs.Prelude.{Some}
 use Rattle.rules.specs.declared.Clause.TheVariants.{DeniedTwice}
 use Rattle.reasons.specs.Reasons.{compared_in, reasons_of}
-use Rattle.reasons.proofs.Examples.{on, contract, january, reason_definitions}
+use Rattle.reasons.proofs.Examples.{on, contract, inputs_with, reason_definitions}
 use Rattle.std.specs.Prelude.{None}
 
 -- one peak and capacity hour, hour 10; and a past of 5 kWh there and 15 in hour 20
@@ -23,14 +23,14 @@ row = set (set (zeros 744) 10 5) 20 15
 -- V 16 by the past gives hour 10 a quarter; C' is 0 with N above K; there is none with R 2, without peak hours, without a past, and with any other
 -- reading
 sums :
-    (compared_in (january marked 3 missing (whole 20) 4 (Some row)) ≡ Some 4)
-    × (compared_in (january marked 2 missing (whole 20) 4 (Some row)) ≡ None)
-    × (compared_in (january (set (zeros 744) 10 2) 3 missing (whole 20) 4 (Some row)) ≡ None)
-    × (compared_in (january marked 3 missing (whole 20) 4 None) ≡ None)
-    × (compared_in (january marked 3 missing (whole 20) 24 (Some row)) ≡ Some 0)
-    × (compared_in (january marked 3 (whole 20) (whole 20) 4 (Some row)) ≡ None)
-    × (compared_in (january marked 3 missing (hourly row) 4 (Some row)) ≡ None)
-    × (compared_in (january marked 3 missing missing 4 (Some row)) ≡ None)
+    (compared_in (inputs_with marked 3 missing (whole 20) 4 (Some row)) ≡ Some 4)
+    × (compared_in (inputs_with marked 2 missing (whole 20) 4 (Some row)) ≡ None)
+    × (compared_in (inputs_with (set (zeros 744) 10 2) 3 missing (whole 20) 4 (Some row)) ≡ None)
+    × (compared_in (inputs_with marked 3 missing (whole 20) 4 None) ≡ None)
+    × (compared_in (inputs_with marked 3 missing (whole 20) 24 (Some row)) ≡ Some 0)
+    × (compared_in (inputs_with marked 3 (whole 20) (whole 20) 4 (Some row)) ≡ None)
+    × (compared_in (inputs_with marked 3 missing (hourly row) 4 (Some row)) ≡ None)
+    × (compared_in (inputs_with marked 3 missing missing 4 (Some row)) ≡ None)
 unfolding reason_definitions
 sums = (refl, refl, refl, refl, refl, refl, refl, refl)
 

@@ -3,11 +3,11 @@ use mathlib.Core.Path.{◌≡◌, refl}
 use lib.ListN.{set}
 use Rattle.numbers.specs.Lists.{zeros}
 use Rattle.rules.specs.Rules.{missing, whole, as_read, figures}
-use Rattle.rules.proofs.Examples.{agreed, january, marked, past, GroundAndVolume, rule_definitions}
+use Rattle.rules.proofs.Examples.{agreed, inputs_with, marked, past, GroundAndVolume, rule_definitions}
 
 -- A 1, n 1, d 1, C' 7: by the past; with P 7, A 7: the peak rule
-ground_6 : GroundAndVolume (january (agreed 1) marked 3 missing (whole 9) 2 past) 6 7
-    × GroundAndVolume (january (agreed 7) marked 3 missing (whole 9) 2 past) 5 7
+ground_6 : GroundAndVolume (inputs_with (agreed 1) marked 3 missing (whole 9) 2 past) 6 7
+    × GroundAndVolume (inputs_with (agreed 7) marked 3 missing (whole 9) 2 past) 5 7
 unfolding rule_definitions
 ground_6 = ((refl, refl), (refl, refl))
 

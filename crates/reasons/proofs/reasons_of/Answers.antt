@@ -1,11 +1,16 @@
--- A closing without a refusal is accepted, and so with any buffer of 744 words.
+-- A closing without a refusal is accepted.
 use Rattle.std.proofs.Common.{refl}
+use Rattle.model.specs.Model.{state}
 use Rattle.model.proofs.Laws.{is_accepted}
-use Rattle.first_ground.proofs.Laws.{known, passed_in}
+use Rattle.model.proofs.Closes.{settled, room_there}
 use Rattle.reasons.proofs.reasons_of.Goals as goal
 
-pub invariant_of-month-clause-passed : goal.invariant_of-month-clause-passed
-invariant_of-month-clause-passed c = passed_in _ _ _ _ (is_accepted _ _ c.in-Ok.ensures refl)
+pub settled_reasons-requires-clause-settled : goal.settled_reasons-requires-clause-settled
+settled_reasons-requires-clause-settled c =
+    let a = c.args in
+    settled (state a.r a.store.now) a.marks.now a.hours.now (is_accepted _ _ c.in-Ok.ensures refl)
 
-pub all_reasons-requires : goal.all_reasons-requires
-all_reasons-requires c = (known _ _ _ _ (is_accepted _ _ c.in-Ok.ensures refl)).buffers.room
+pub settled_reasons-requires-clause-room : goal.settled_reasons-requires-clause-room
+settled_reasons-requires-clause-room c =
+    let a = c.args in
+    room_there (state a.r a.store.now) a.marks.now a.hours.now (is_accepted _ _ c.in-Ok.ensures refl)
