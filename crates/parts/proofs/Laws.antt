@@ -6,6 +6,7 @@ use Prim.Native.Nat.{ℕ, ◌+◌, ◌≤◌, ◌<◌}
 use native.Mathlib.Nat.{add-zero}
 use native.Mathlib.Omega.{arith}
 use lib.ListN.{length, get_or-eq_default}
+use Rattle.std.proofs.lemmas.Bool.{not-true}
 use Rattle.numbers.specs.Lists.{sum_to, sum, at, none_above}
 use Rattle.numbers.proofs.Laws.{by_cases, length_tab, sum_tab, at_tab, tab_at, tab_same, sum_at, sum_both, sum_same, sum_stop, none_above_at, none_above_from}
 use Rattle.parts.specs.Sets.{lies_inside, lies_outside, rank}
@@ -135,16 +136,12 @@ part_joined days inside outside e =
     (λ h l i. joined_at_hour days inside outside h l ∙ rw i)
     ∙ selected_counts c (at inside) t ∙ rw (← e) (tab_at inside))
 
-not_true : (b : Bool) → not b ≡ true → b ≡ false
-not_true true e = sym e
-not_true false e = refl
-
 pub others_joined : (days : ℕ) (inside outside : List ℕ) → outside_part days (joined days inside outside) ≡ outside_part days outside
 unfolding outside_part
 others_joined days inside outside =
     rw (joined_length days inside outside)
     (selected_same (lies_outside days) (at (joined days inside outside)) (at outside) (length outside)
-    (λ h l i. joined_at_hour days inside outside h l ∙ rw (not_true (lies_inside days h) i)))
+    (λ h l i. joined_at_hour days inside outside h l ∙ rw (not-true (lies_inside days h) i)))
 
 pub joined_part : (days : ℕ) (xs : List ℕ) → joined days (inside_part days xs) xs ≡ xs
 unfolding joined

@@ -4,3 +4,4 @@ pub mod Laws
 pub mod Days
 pub mod Padded
 pub mod Loops
+pub mod Examples

@@ -52,7 +52,8 @@ module _ (chosen : ℕ → Bool) where
       (eq-or-lt_of_le (le_of_suc-le-suc l))
 
   -- functions that agree at chosen indexes have the same values there
-  pub selected_same : (f g : ℕ → ℕ) (n : ℕ) → ((h : ℕ) → h < n → chosen h ≡ true → f h ≡ g h) → selected chosen f n ≡ selected chosen g n
+  pub selected_same : (f g : ℕ → ℕ) (n : ℕ)
+      → ((h : ℕ) → h < n → chosen h ≡ true → f h ≡ g h) → selected chosen f n ≡ selected chosen g n
   selected_same f g zero e = refl
   selected_same f g (suc n) e =
       let s = selected_same f g n (λ h l. e h (le_step l)) in

@@ -6,7 +6,7 @@ ghost use Rattle.parts.specs.Parts.{selected, Front};
 use super::sets::lies_inside;
 
 // Entry k becomes x, where there is one.
-fn store<T: Copy>(out: &mut [T], k: usize, x: T)
+fn write_entry<T: Copy>(out: &mut [T], k: usize, x: T)
     ensures { out.new ≡ set out.old k x }
 {
     if k < out.len() {
@@ -24,7 +24,7 @@ pub(crate) fn fill_front<T: Copy>(days: u32, xs: &[T], out: &mut [T]) -> usize
     let mut k = 0;
     for (h, x) in xs.iter().enumerate() {
         if lies_inside(days, h) {
-            store(out, k, *x);
+            write_entry(out, k, *x);
             k += 1;
         }
     }
