@@ -9,7 +9,7 @@ use lib.Dec.{eqb, leb}
 use lib.Bits.{bit_or}
 use lib.Pow.{pow_mono}
 use Rattle.std.specs.Int.{bit_at}
-use Rattle.std.proofs.lemmas.Nat.Bits.{bit_at-lt, bit_at_or, bit_at_above, bit_at_mask_inside, bit_at_mask_below, bit_at_mask_above}
+use Rattle.std.proofs.lemmas.Nat.Bits.{bit_at-lt, bit_at-zero, bit_at_or, bit_at_above, bit_at_mask_inside, bit_at_mask_below, bit_at_mask_above}
 use Rattle.numbers.specs.Lists.{count_to}
 use Rattle.numbers.proofs.Laws.{and_false, sum_same, sum_stop, sum_both}
 use Rattle.parts.specs.Sets.{in_set, lies_between, days_between, day_count}
@@ -21,6 +21,10 @@ past_set days n k d l = rw (bit_at_above days n k d l)
 
 pub past_word : (days k : ℕ) → days < 4294967296 → 32 ≤ k → in_set days k ≡ false
 past_word days k d l = past_set days 32 k d l
+
+pub none_in : (k : ℕ) → in_set 0 k ≡ false
+unfolding in_set
+none_in k = rw (bit_at-zero k)
 
 -- the powers of 2 that a word of 64 bits has
 pub power_word : (k : ℕ) → k ≤ 32 → 1 * 2 ^ k % 18446744073709551616 ≡ 2 ^ k

@@ -150,7 +150,8 @@ joined_part days xs =
     (λ h l. by_cases (lies_inside days h) (λ t. rw t (part_at days xs h l t)) (λ f. rw f))
     ∙ tab_at xs
 
--- NONE AND ALL. Where no hour lies inside the list stays, and where every hour does the part is the list
+-- NONE AND ALL. Where no hour lies inside a list that is joined stays; where every hour does the part is the list, and the list
+-- that is joined is the part
 pub joined_none : (days : ℕ) (inside outside : List ℕ) → ((h : ℕ) → h < length outside → lies_inside days h ≡ false)
     → joined days inside outside ≡ outside
 unfolding joined
@@ -159,3 +160,10 @@ joined_none days inside outside e = tab_same (length outside) _ _ (λ h l. rw (e
 pub part_all : (days : ℕ) (xs : List ℕ) → ((h : ℕ) → h < length xs → lies_inside days h ≡ true) → inside_part days xs ≡ xs
 unfolding inside_part
 part_all days xs e = selected_all (lies_inside days) (at xs) (length xs) e ∙ tab_at xs
+
+pub joined_all : (days : ℕ) (inside outside : List ℕ) → length inside ≡ rank days (length outside)
+    → ((h : ℕ) → h < length outside → lies_inside days h ≡ true)
+    → joined days inside outside ≡ inside
+joined_all days inside outside l e =
+    sym (part_all days (joined days inside outside) (λ h m. e h (rw (joined_length days inside outside) at m)))
+    ∙ part_joined days inside outside l

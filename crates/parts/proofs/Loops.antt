@@ -20,7 +20,7 @@ module _ {X : Type 0} {x : X} where
   pub front_none : {d : List X} → d ≡ replicate (length d) x → Front x [] d d
   front_none {d} e = record { long = refl; is = λ i l. rw e (get_or-replicate (length d) i x x l) }
 
-  -- one entry more
+  -- one entry more, which stands behind the k before it; where the buffer has no place k it stays
   pub front_more : {xs d l : List X} {k : ℕ} (y : X) → Front x xs d l → length xs ≡ k → Front x (xs ++ (y ∷ [])) d (set l k y)
   front_more {xs} {d} {l} {k} y f e = record {
     long = length-set l k y ∙ f.long;
@@ -46,6 +46,7 @@ pub record Writing {X : Type 0} (days : ℕ) (xs d l : List X) (k h : ℕ) : Typ
   pub place : k ≡ rank days h
   pub front : (x : X) → d ≡ replicate (length d) x → Front x (selected (lies_inside days) (λ j. get_or xs j x) h) d l
 
+-- before the first hour, and after an hour inside and one outside
 pub writing_none : {X : Type 0} {days : ℕ} {xs d : List X} → Writing days xs d d 0 0
 unfolding rank
 writing_none = record { most = omega arith; place = refl; front = λ x e. front_none e }
@@ -57,7 +58,7 @@ writing_yes {days = days} {xs = xs} {y = y} {h = h} w t m e =
     let c = lies_inside days in
     record {
       most = omega (arith, w.most);
-      place = rw (add-one, add-one) (omega (arith, w.place, count_yes c h t));
+      place = rw (add-one h) (omega (arith, w.place, count_yes c h t));
       front = λ x r.
           rw (add-one, selected_yes c (λ j. get_or xs j x) h t, ← get_or_read_under xs h (length xs) y x e m refl)
           (front_more _ (w.front x r) (length_selected c _ h ∙ sym w.place));
@@ -104,11 +105,13 @@ joining_yes {days} {h = h} w t b e =
     let p = w.place in
     record {
       most = omega (arith, w.most);
-      place = rw (add-one, add-one) (omega (arith, p, count_yes (lies_inside days) h t));
+      place = rw (add-one h) (omega (arith, p, count_yes (lies_inside days) h t));
       filled = filled_more w.filled b (rw (t, e, p));
     }
 
+-- an entry that is what it has to be may stay
 filled_skip : {f : ℕ → ℕ} {d l : List ℕ} {h : ℕ} → Filled f d l h → h < length d → at d h ≡ f h → Filled f d l (h + 1)
+-- an entry that is what it has to be may stay
 filled_skip {f} {d} {l} {h} filled b e = record {
   long = filled.long;
   is = rw (filled.is, add-one, drop-cons d h 0, e, append_assoc);

@@ -13,26 +13,27 @@ use fill::fill_front;
 use numbers::word_at;
 use sets::lies_inside;
 
-// The entries of the hours inside go to the front of the buffer, in order, with 0 behind them. The answer is how many hours lie
-// inside; where that is more than the buffer has room for, the first ones are there.
-pub fn part_words(days: u32, xs: &[u32], out: &mut [u32]) -> usize
-    ensures count { result ≡ rank days (length xs.now) }
-    ensures part { out.new ≡ tab (length out.old) (at (inside_part days xs.now)) }
+// The part of a list of hours that lies inside a set of days: its entries go to the front of the buffer, in order, with 0 behind
+// them. The answer is how many they are; where the buffer has room for fewer, it has the first ones.
+pub fn part_words(days: u32, hours: &[u32], part: &mut [u32]) -> usize
+    ensures count { result ≡ rank days (length hours.now) }
+    ensures entries { part.new ≡ tab (length part.old) (at (inside_part days hours.now)) }
 {
-    out.fill(0);
-    fill_front(days, xs, out)
+    part.fill(0);
+    fill_front(days, hours, part)
 }
 
-// The same for marks.
-pub fn part_marks(days: u32, marks: &[u8], out: &mut [u8]) -> usize
+// The same of a list of marks.
+pub fn part_marks(days: u32, marks: &[u8], part: &mut [u8]) -> usize
     ensures count { result ≡ rank days (length marks.now) }
-    ensures part { out.new ≡ tab (length out.old) (at (inside_part days marks.now)) }
+    ensures entries { part.new ≡ tab (length part.old) (at (inside_part days marks.now)) }
 {
-    out.fill(0);
-    fill_front(days, marks, out)
+    part.fill(0);
+    fill_front(days, marks, part)
 }
 
-// The hours inside get the entries of a list, in order, and 0 where it has no more; those outside stay.
+// A list of hours joined from its parts: the hours inside get the entries of a list, in order, and 0 where it has no more; those
+// outside stay.
 pub fn join_words(days: u32, part: &[u32], hours: &mut [u32])
     ensures { hours.new ≡ joined days part.now hours.old }
 {
@@ -46,23 +47,23 @@ pub fn join_words(days: u32, part: &[u32], hours: &mut [u32])
 }
 
 // The entry of hour h where it lies outside, else 0, as the sum of the definition has it.
-fn outside_at(days: u32, xs: &[u32], h: usize) -> u32
-    ensures { result ≡ cond (lies_outside days h) (at xs.now h) 0 }
+fn outside_at(days: u32, hours: &[u32], h: usize) -> u32
+    ensures { result ≡ cond (lies_outside days h) (at hours.now h) 0 }
 {
     if lies_inside(days, h) {
         0
     } else {
-        word_at(xs, h)
+        word_at(hours, h)
     }
 }
 
 // The sum of the entries outside, of a buffer of up to 744 words. It goes over the 744 places of a buffer as the definition does.
-pub fn sum_outside(days: u32, xs: &[u32]) -> u64
-    ensures { result ≡ sum_outside days xs.now }
+pub fn sum_outside(days: u32, hours: &[u32]) -> u64
+    ensures { result ≡ sum_outside days hours.now }
 {
     let mut sum: u64 = 0;
     for h in 0..744 {
-        sum += u64::from(outside_at(days, xs, h));
+        sum += u64::from(outside_at(days, hours, h));
     }
     sum
 }

@@ -7,7 +7,7 @@ ghost use Rattle.parts.specs.Sets.{in_set, day_count, days_between, lies_inside}
 pub fn in_set(days: u32, k: usize) -> bool
     ensures { result ≡ in_set days k }
 {
-    if k < 32 { (days >> k) % 2 == 1 } else { false }
+    k < 32 && (days >> k) % 2 == 1
 }
 
 // Whether hour h lies on a day of the set.

@@ -12,7 +12,7 @@ loop-h-preserved g c =
     let is = sym c.lies_inside.ensures in
     elim c.if-lies_inside.branch [
       | then-lies_inside w ↦
-          rw (w.out-is, w.k-is, w.write_entry.ensures)
-          (writing_yes c.loop-h.invariant (is ∙ w.if-lies_inside.true) c.loop-h-test.true c.index-xs-h.is)
-      | else-lies_inside w ↦ rw (w.out-is, w.k-is) (writing_no c.loop-h.invariant (is ∙ w.if-lies_inside.false))
+          rw (w.front-is, w.k-is, w.write_entry.ensures)
+          (writing_yes c.loop-h.invariant (is ∙ w.if-lies_inside.true) c.loop-h-test.true c.index-entries-h.is)
+      | else-lies_inside w ↦ rw (w.front-is, w.k-is) (writing_no c.loop-h.invariant (is ∙ w.if-lies_inside.false))
     ]

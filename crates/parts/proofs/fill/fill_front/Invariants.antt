@@ -3,4 +3,4 @@ use Rattle.parts.proofs.Loops.{Writing}
 use Rattle.parts.proofs.fill.fill_front.Given as goal
 
 abbrev pub invariant-loop-h : goal.invariant-loop-h
-invariant-loop-h g l = Writing l.days l.xs l.initial.out l.out l.k l.h
+invariant-loop-h g l = Writing l.days l.entries l.initial.front l.front l.k l.h
