@@ -1,7 +1,7 @@
+pub mod Examples
 pub mod Selected
 pub mod Bits
 pub mod Laws
 pub mod Days
 pub mod Padded
 pub mod Loops
-pub mod Examples
