@@ -1,4 +1,4 @@
--- A loop that writes the entries of the hours inside to the front of a buffer. Assumes nothing.
+-- Loops that write the entries of the hours inside to the front of a buffer, and the entries of a part into the hours inside. Assumes nothing.
 use mathlib.Core.Path.{◌≡◌, refl, sym, ap, ◌∙◌}
 use mathlib.Core.List.{List, [], ◌∷◌, ◌++◌, append_assoc}
 use mathlib.Core.Bool.{true, false}
@@ -40,7 +40,7 @@ module _ {X : Type 0} {x : X} where
         ];
   }
 
--- the buffer, which was d and is l, has the entries of the hours inside before hour h, of which there are k
+-- THE LOOP THAT PARTS: the buffer, which was d and is l, has the entries of the hours inside before hour h, of which there are k
 pub record Writing {X : Type 0} (days : ℕ) (xs d l : List X) (k h : ℕ) : Type 0 where
   pub most : k ≤ h
   pub place : k ≡ rank days h
