@@ -18,7 +18,7 @@ use Rattle.parts.proofs.Selected.{selected_yes, selected_no, count_yes, count_no
 module _ {X : Type 0} {x : X} where
   -- a buffer of x alone has no entries yet
   pub front_none : {d : List X} → d ≡ replicate (length d) x → Front x [] d d
-  front_none {d} e = record { long = refl; is = λ i l. rw e (get_or-replicate (length d) i x x l) }
+  front_none {d} e = record { long = refl; is = λ i l. rw e (get_or-replicate (length d) i x x (omega arith)) }
 
   -- one entry more, which stands behind the k before it; where the buffer has no place k it stays
   pub front_more : {xs d l : List X} {k : ℕ} (y : X) → Front x xs d l → length xs ≡ k → Front x (xs ++ (y ∷ [])) d (set l k y)
