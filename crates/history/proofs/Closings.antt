@@ -15,7 +15,7 @@ use Rattle.calendar.specs.declared.Date.{Date}
 use Rattle.calendar.specs.Calendar.{is_month, open_hours, next_month}
 use Rattle.calendar.proofs.Laws.{open_high}
 use Rattle.contract.specs.Contract.{kept}
-use Rattle.record.specs.Record.{kwh, no_readings}
+use Rattle.record.specs.Record.{kwh, no_readings, with_run}
 use Rattle.rules.specs.Calls.{Opening, MeterReading, billing_hours, control_hours, billing_volume, control_volume, neighbour}
 use Rattle.rules.specs.Calls.{Report, failure, admission, denial, permission, Call, read, report, closing}
 use Rattle.rules.specs.Rules.{Outcome, rules, becomes_past}
@@ -23,9 +23,9 @@ use Rattle.rules.specs.Right.{Right}
 use Rattle.model.specs.Model.{State, row_of, inputs, run_after, closed_with, accept, accepted}
 use Rattle.model.proofs.Closes.{settled, closing_right, row_few}
 use Rattle.model.proofs.GoesOn.{call_sound}
-use Rattle.history.specs.Book.{Book, month_of, denials_of, run_of, volumes, inputs_of}
+use Rattle.history.specs.Book.{Book, month_of, run_of, volumes, inputs_of}
 use Rattle.history.proofs.Rows.{Holds, replaced_at, holds_same, holds_put, set_tab}
-use Rattle.history.proofs.View.{serving_of, fault_of, latest_of, year_in, contents, point_of, seen, look_backs, OfItsMeter, MonthsClosed, Shows, as_seen}
+use Rattle.history.proofs.View.{latest_of, year_in, contents, point_of, seen, look_backs, OfItsMeter, MonthsClosed, Shows, as_seen}
 use Rattle.history.proofs.Inputs.{inputs_same}
 use Rattle.history.proofs.Steps.{entry, Steps, step_billing_hours, step_control_hours, step_billing_volume, step_control_volume, step_neighbour}
 use Rattle.history.proofs.Steps.{step_failure, step_admission, step_denial, step_permission}
@@ -70,7 +70,7 @@ module _ (o : Opening) (es : Book) (store : List ℕ) (h : Shows o es (seen o es
           opened = 1;
           contract = kept o.asked o.currents o.place;
           date = next_month (month_of o es);
-          service = record { run = run_after_lem i; serving = serving_of es; denials = denials_of es; fault = fault_of o es };
+          service = with_run (point_of o es).service (run_after_lem i);
           past = record { years = years_after i; latest = latest_of o (entry o es (closing marks buffer) ∷ es) };
           readings = no_readings;
           total = kwh (total_after i);

@@ -13,15 +13,15 @@ use Rattle.calendar.specs.Calendar.{open_hours, month_number}
 use Rattle.calendar.proofs.Laws.{open_high}
 use Rattle.contract.specs.Contract.{kept}
 use Rattle.record.specs.Record.{is_set}
-use Rattle.rules.specs.Calls.{Opening, MeterReading, billing_hours, control_hours, billing_volume, control_volume, neighbour}
-use Rattle.rules.specs.Calls.{Report, failure, admission, denial, permission, Call, read, report, closing, is_closing}
+use Rattle.rules.specs.Calls.{Opening, billing_hours, control_hours, billing_volume, control_volume, neighbour}
+use Rattle.rules.specs.Calls.{failure, admission, denial, permission, Call, read, report, is_closing}
 use Rattle.rules.specs.Rules.{Measured, missing, hourly, whole, Outcome, becomes_past}
 use Rattle.model.specs.Refusals.{reading_number, own_refusal}
 use Rattle.model.specs.Model.{after_reading, after_report, accept, accepted}
 use Rattle.model.proofs.Laws.{reading_passed}
 use Rattle.model.proofs.Keeps.{call_passed}
 use Rattle.model.proofs.GoesOn.{call_sound}
-use Rattle.history.specs.Book.{Entry, Book, control, closed, reading_kind, report_kind, kind_of, kind_number, of_kind, month_of, denials_of, billing_of}
+use Rattle.history.specs.Book.{Entry, Book, control, closed, of_kind, month_of, denials_of, billing_of}
 use Rattle.history.specs.Book.{this_months}
 use Rattle.history.specs.Book.{became_past, work_out}
 use Rattle.history.proofs.Rows.{Holds, replaced_at, holds_same, holds_put}
@@ -55,26 +55,9 @@ tested : {a b : ℕ} → not (eqb a b) ≡ false → a ≡ b
 tested {a} {b} e = eqb-true a b (not-false (eqb a b) e)
 
 -- an entry closes a month where its call does
-reading_open : (x : MeterReading) → eqb (kind_number (reading_kind x)) (kind_number closed) ≡ false
-unfolding reading_kind kind_number
-reading_open (billing_hours hs) = refl
-reading_open (control_hours hs) = refl
-reading_open (billing_volume v) = refl
-reading_open (control_volume v) = refl
-reading_open (neighbour source v) = refl
-
-report_open : (x : Report) → eqb (kind_number (report_kind x)) (kind_number closed) ≡ false
-unfolding report_kind kind_number
-report_open (failure reason) = refl
-report_open admission = refl
-report_open denial = refl
-report_open permission = refl
-
 pub entry_closes : (c : Call) (u : Outcome) → of_kind closed (record { call = c; out = u }) ≡ is_closing c
-unfolding of_kind kind_of kind_number is_closing
-entry_closes (read x) u = reading_open x
-entry_closes (report x) u = report_open x
-entry_closes (closing marks buffer) u = refl
+unfolding of_kind
+entry_closes c u = refl
 
 -- and else nothing is asked of it
 open_entered : (o : Opening) (es : Book) (c : Call) → is_closing c ≡ false → Entered o (entry o es c) es

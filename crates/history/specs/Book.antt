@@ -1,12 +1,12 @@
 -- The book of demand 3 (document 01, 'The list and the book of demand 3'). It is fed the opening's arguments, then each call's arguments
 -- and whether it was accepted, and looks back over them.
 -- It imports no record, no store and no model: nothing comes from there.
-use Rattle.std.specs.Prelude.{ℕ, suc, ◌+◌, ◌-◌, Bool, false, cond, ◌&&◌, ◌||◌, List, [], ◌∷◌, eqb, leb}
+use Rattle.std.specs.Prelude.{ℕ, suc, ◌+◌, ◌-◌, Bool, true, false, cond, ◌&&◌, ◌||◌, List, [], ◌∷◌, eqb, leb}
 use Rattle.calendar.specs.declared.Date.{Date}
 use Rattle.calendar.specs.Calendar.{month_number, next_month}
 use Rattle.contract.specs.Contract.{kept}
 use Rattle.rules.specs.Calls.{Opening, MeterReading, billing_hours, control_hours, billing_volume, control_volume, neighbour}
-use Rattle.rules.specs.Calls.{Report, failure, admission, denial, permission, Call, read, report, closing, is_closing, marks_of, is_fault}
+use Rattle.rules.specs.Calls.{failure, admission, denial, permission, Call, read, report, closing, is_closing, marks_of, is_fault}
 use Rattle.rules.specs.Rules.{Measured, missing, hourly, whole, Stated, PastHours, Inputs, Outcome}
 use Rattle.rules.specs.Rules.{counted_of, neighbour_of, rules, becomes_past}
 use Rattle.std.specs.Prelude.{None, Some}
@@ -20,60 +20,48 @@ pub record Entry : Type 0 where
 abbrev pub Book : Type 0
 Book = List Entry
 
--- WHAT A CALL IS
-pub data Kind : Type 0 where
-  billing control neighbouring failed admitted denied permitted closed : Kind
+-- WHAT A CALL IS: a test for each kind
+abbrev pub billing : Call → Bool
+billing (read (billing_hours hours)) = true
+billing (read (billing_volume v)) = true
+billing _ = false
 
-unfoldable pub reading_kind : MeterReading → Kind
-reading_kind (billing_hours hours) = billing
-reading_kind (control_hours hours) = control
-reading_kind (billing_volume v) = billing
-reading_kind (control_volume v) = control
-reading_kind (neighbour source v) = neighbouring
+abbrev pub control : Call → Bool
+control (read (control_hours hours)) = true
+control (read (control_volume v)) = true
+control _ = false
 
-unfoldable pub report_kind : Report → Kind
-report_kind (failure reason) = failed
-report_kind admission = admitted
-report_kind denial = denied
-report_kind permission = permitted
+abbrev pub neighbouring : Call → Bool
+neighbouring (read (neighbour source v)) = true
+neighbouring _ = false
 
-unfoldable pub kind_of : Call → Kind
-kind_of (read reading) = reading_kind reading
-kind_of (report what) = report_kind what
-kind_of (closing marks buffer) = closed
+abbrev pub failed : Call → Bool
+failed (report (failure reason)) = true
+failed _ = false
 
--- kinds are told apart by numbers
-unfoldable pub kind_number : Kind → ℕ
-kind_number billing = 0
-kind_number control = 1
-kind_number neighbouring = 2
-kind_number failed = 3
-kind_number admitted = 4
-kind_number denied = 5
-kind_number permitted = 6
-kind_number closed = 7
+abbrev pub admitted : Call → Bool
+admitted (report admission) = true
+admitted _ = false
 
-unfoldable pub of_kind : Kind → Entry → Bool
-of_kind k e = eqb (kind_number (kind_of e.call)) (kind_number k)
+abbrev pub denied : Call → Bool
+denied (report denial) = true
+denied _ = false
+
+abbrev pub permitted : Call → Bool
+permitted (report permission) = true
+permitted _ = false
+
+abbrev pub closed : Call → Bool
+closed c = is_closing c
+
+unfoldable pub of_kind : (Call → Bool) → Entry → Bool
+of_kind test e = test e.call
 
 -- the source of a neighbour reading, and the reason of a failure
-unfoldable pub source_in : MeterReading → ℕ
-source_in (billing_hours hours) = 0
-source_in (control_hours hours) = 0
-source_in (billing_volume v) = 0
-source_in (control_volume v) = 0
-source_in (neighbour source v) = source
-
-unfoldable pub reason_in : Report → ℕ
-reason_in (failure reason) = reason
-reason_in admission = 0
-reason_in denial = 0
-reason_in permission = 0
-
 unfoldable pub source_or_reason : Call → ℕ
-source_or_reason (read reading) = source_in reading
-source_or_reason (report what) = reason_in what
-source_or_reason (closing marks buffer) = 0
+source_or_reason (read (neighbour source v)) = source
+source_or_reason (report (failure reason)) = reason
+source_or_reason _ = 0
 
 -- what a reading says, and the reading that a call brings
 unfoldable pub measured_by : MeterReading → Measured

@@ -46,6 +46,10 @@ point b k = fresh_record (contract b k) (on 2023 2)
 abbrev served : Record → Service → Record
 served r s = with_service r s
 
+-- run, in service or not, denials, month of the last fault
+abbrev served_so : ℕ → ℕ → ℕ → ℕ → Service
+served_so run serving denials fault = record { run = run; serving = serving; denials = denials; fault = fault }
+
 -- ANYONE: 1 before 2 before 3 before the call's own
 any_number :
     (refuse_anyone 10415 zero_record 20 ≡ 1) × (refuse_anyone 10417 (point 1 2) 20 ≡ 1) × (refuse_anyone 10416 zero_record 20 ≡ 2)
@@ -179,15 +183,15 @@ repeats :
 repeats = (refl, refl, refl, refl)
 
 abbrev faulted : ℕ → Service
-faulted n = record { run = 5; serving = 1; denials = 1; fault = n }
+faulted n = served_so 5 1 1 n
 
 failures :
-    (after_failure (faulted 24278) (on 2023 2) 1 ≡ record { run = 0; serving = 0; denials = 1; fault = 24278 })
-    × (after_failure (faulted 24266) (on 2023 2) 2 ≡ record { run = 0; serving = 0; denials = 1; fault = 24278 })
-    × (after_failure (faulted 24265) (on 2023 2) 1 ≡ record { run = 5; serving = 0; denials = 1; fault = 24278 })
-    × (after_failure (faulted 0) (on 2023 2) 1 ≡ record { run = 5; serving = 0; denials = 1; fault = 24278 })
-    × (after_failure (faulted 24277) (on 2023 2) 3 ≡ record { run = 5; serving = 0; denials = 1; fault = 24277 })
-    × (after_failure (faulted 24277) (on 2023 2) 4 ≡ record { run = 5; serving = 0; denials = 1; fault = 24277 })
+    (after_failure (faulted 24278) (on 2023 2) 1 ≡ served_so 0 0 1 24278)
+    × (after_failure (faulted 24266) (on 2023 2) 2 ≡ served_so 0 0 1 24278)
+    × (after_failure (faulted 24265) (on 2023 2) 1 ≡ served_so 5 0 1 24278)
+    × (after_failure (faulted 0) (on 2023 2) 1 ≡ served_so 5 0 1 24278)
+    × (after_failure (faulted 24277) (on 2023 2) 3 ≡ served_so 5 0 1 24277)
+    × (after_failure (faulted 24277) (on 2023 2) 4 ≡ served_so 5 0 1 24277)
 unfolding month_number
 failures = (refl, refl, refl, refl, refl, refl)
 
@@ -198,8 +202,8 @@ metered = with_readings (point 2 2) (with_billing (point 2 2).readings (given_as
 denials :
     ((accept (state metered []) (report denial)).point ≡ with_service metered (with_denials fresh_service 1))
     × ((accept (state (denied 1 metered) []) (report denial)).point ≡ with_service (point 2 2) (with_denials fresh_service 2))
-    × ((accept (state (served (point 2 2) (record { run = 5; serving = 0; denials = 2; fault = 0 })) []) (report permission)).point.service
-    ≡ record { run = 5; serving = 0; denials = 0; fault = 0 })
+    × ((accept (state (served (point 2 2) (served_so 5 0 2 0)) []) (report permission)).point.service
+    ≡ served_so 5 0 0 0)
 unfolding refusal_definitions
 denials = (refl, refl, refl)
 
@@ -253,7 +257,7 @@ pasts = (refl, refl, refl, refl, refl)
 -- 7 neither, and the run grows. The total grows, the readings and row 12 clear, January 2025 opens
 abbrev december : ℕ → List ℕ → ℕ → Record
 december run years latest =
-    with_past (with_service (with_date (point 1 2) (on 2024 12)) (record { run = run; serving = 1; denials = 1; fault = 0 }))
+    with_past (with_service (with_date (point 1 2) (on 2024 12)) (served_so run 1 1 0))
     (record { years = years; latest = latest })
 
 abbrev ended : ℕ → State
@@ -267,7 +271,7 @@ begun run years latest =
       opened = 1;
       contract = contract 1 2;
       date = on 2025 1;
-      service = record { run = run; serving = 1; denials = 1; fault = 0 };
+      service = served_so run 1 1 0;
       past = record { years = years; latest = latest };
       readings = no_readings;
       total = record { 0 = 7 };

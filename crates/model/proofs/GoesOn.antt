@@ -18,6 +18,8 @@ use Rattle.contract.specs.Contract.{is_agreed, kept}
 use Rattle.record.specs.Record.{no_past, fresh_service}
 use Rattle.validity.specs.Valid.{all_of, contract_tests, volume_limit}
 use Rattle.validity.proofs.Laws.{all, valid_from, service_from, past_from, none_fit}
+use Rattle.calendar.specs.declared.Date.{Date}
+use Rattle.record.specs.declared.Service.{Service}
 use Rattle.record.specs.declared.Record.{Record}
 use Rattle.store.specs.Store.{store_fits}
 use Rattle.store.proofs.Laws.{fits_empty}
@@ -26,7 +28,8 @@ use Rattle.rules.specs.Calls.{Report, failure, admission, denial, permission, Ca
 use Rattle.rules.specs.Rules.{rules, becomes_past}
 use Rattle.model.specs.Refusals.{refuse, refuse_reading, closing_number, reading_number, report_number, own_refusal, open_refusal}
 use Rattle.model.specs.declared.Answer.{Answer}
-use Rattle.model.specs.Model.{State, fault_within_year, inputs, closed_with, after_reading, after_report, accept, accepted, state, refusal, leaves, answer}
+use Rattle.model.specs.Model.{State, fault_within_year, service_after, discards_reading, inputs, closed_with, after_reading, after_report, accept, accepted}
+use Rattle.model.specs.Model.{state, refusal, leaves, answer}
 use Rattle.model.specs.Model.{Does}
 use Rattle.model.specs.Opening.{opens, opened, open_leaves, open_answer, Opens}
 use Rattle.model.specs.Sound.{Room, Sound, StateFits}
@@ -105,20 +108,19 @@ reading_stays s (billing_volume v) = record { date = refl; run = omega arith; to
 reading_stays s (control_volume v) = record { date = refl; run = omega arith; total = refl }
 reading_stays s (neighbour source v) = record { date = refl; run = omega arith; total = refl }
 
+service_run : (s : Service) (d : Date) (x : Report) → (service_after s d x).run ≤ s.run
+service_run s d (failure reason) = cond_most (is_fault reason && fault_within_year s.fault (month_number d)) zero-le (omega arith)
+service_run s d admission = omega arith
+service_run s d denial = omega arith
+service_run s d permission = omega arith
+
 report_stays : (s : State) (x : Report) → Stays s (after_report s x)
 unfolding after_report
-report_stays s (failure reason) =
-    record {
-      date = refl;
-      run = cond_most (is_fault reason && fault_within_year s.point.service.fault (month_number s.point.date)) zero-le (omega arith);
-      total = refl;
-    }
-report_stays s admission = record { date = refl; run = omega arith; total = refl }
-report_stays s denial =
-    by_cases (eqb s.point.service.denials 1)
-    (λ t. rw t (record { date = refl; run = omega arith; total = refl }))
-    (λ f. rw f (record { date = refl; run = omega arith; total = refl }))
-report_stays s permission = record { date = refl; run = omega arith; total = refl }
+report_stays s x =
+    let run = service_run s.point.service s.point.date x in
+    by_cases (discards_reading s.point.service x)
+    (λ t. rw t (record { date = refl; run = run; total = refl }))
+    (λ f. rw f (record { date = refl; run = run; total = refl }))
 
 stays : (s : State) (c : Call) → is_closing c ≡ false → Stays s (accept s c)
 unfolding is_closing accept

@@ -16,7 +16,7 @@ use Rattle.calendar.proofs.Laws.{number_limits}
 use Rattle.record.specs.declared.Service.{Service}
 use Rattle.record.specs.declared.Readings.{Readings}
 use Rattle.record.specs.declared.Record.{Record}
-use Rattle.record.specs.Record.{not_given, given_as, with_service, with_readings, with_serving, with_denials}
+use Rattle.record.specs.Record.{not_given, given_as, with_service, with_readings}
 use Rattle.record.specs.Record.{with_billing, with_control, with_first, with_second}
 use Rattle.validity.specs.Valid.{volume_limit, valid}
 use Rattle.validity.proofs.Laws.{Valid, valid_parts, valid_from, ServiceFits, service_parts, service_from, ReadingsFit, readings_parts}
@@ -26,7 +26,8 @@ use Rattle.store.proofs.Laws.{length_row, length_put, put_fits_month}
 use Rattle.rules.specs.Calls.{MeterReading, billing_hours, control_hours, billing_volume, control_volume, neighbour}
 use Rattle.rules.specs.Calls.{Report, failure, admission, denial, permission, Call, read, report, closing, is_closing, is_fault}
 use Rattle.model.specs.Refusals.{reading_number, report_number, own_refusal}
-use Rattle.model.specs.Model.{State, state, discarded, fault_within_year, after_failure, one_denial, after_reading, after_report, accept, refusal, accepted}
+use Rattle.model.specs.Model.{State, state, discarded, fault_within_year, service_after, discards_reading, with_service_after, after_reading}
+use Rattle.model.specs.Model.{after_report, accept, refusal, accepted}
 use Rattle.model.specs.Sound.{StateFits}
 use Rattle.model.proofs.Laws.{skip, Passed, passed, reading_passed, month_most}
 
@@ -211,65 +212,34 @@ choice : {A : Type 0} (P : A → Type 0) (b : Bool) {x y : A} → P x → P y �
 choice P true p q = p
 choice P false p q = q
 
-keep_failure : (s : State) (reason : ℕ) → StateFits s → accepted s (report (failure reason)) ≡ true → StateFits (after_report s (failure reason))
-unfolding after_report
-keep_failure s reason f t =
+-- the service after a report
+service_fits : (s : State) (x : Report) → StateFits s → accepted s (report x) ≡ true
+    → ServiceFits (service_after s.point.service s.point.date x) s.point.date
+unfolding report_number own_refusal
+service_fits s (failure reason) f t =
     let r = s.point in
     let o = call_passed s (report (failure reason)) t in
-    let v = valid_parts r f.record_fits in
-    let h = old_service r v in
+    let h = old_service r (valid_parts r f.record_fits) in
     let m = open_month r o.sound o.not_over in
-    discarded_fits _
-    (record_kept s _ f
-    (with_service_lem r (after_failure r.service r.date reason) v
-    (record {
+    record {
       run = cond_most (is_fault reason && fault_within_year r.service.fault (month_number r.date)) (lit≤ tt) h.run;
       serving = lit≤ tt;
       denials = h.denials;
       month = choice (λ (n : ℕ). eqb n 0 || is_month_number n ≡ true) (is_fault reason) (month_number_lem r.date m) h.month;
       before = cond_most (is_fault reason) (omega arith) h.before;
-    }))
-    f.twelve)
-
-keep_admission : (s : State) → StateFits s → accepted s (report admission) ≡ true → StateFits (after_report s admission)
-unfolding after_report
-keep_admission s f t =
-    let r = s.point in
-    let v = valid_parts r f.record_fits in
-    let h = old_service r v in
-    record_kept s _ f
-    (with_service_lem r (with_serving r.service 1) v (record { run = h.run; serving = lit≤ tt; denials = h.denials; month = h.month; before = h.before }))
-    f.twelve
-
-keep_denial : (s : State) → StateFits s → accepted s (report denial) ≡ true → StateFits (after_report s denial)
-unfolding report_number own_refusal after_report
-keep_denial s f t =
+    }
+service_fits s admission f t =
+    let h = old_service s.point (valid_parts s.point f.record_fits) in
+    record { run = h.run; serving = lit≤ tt; denials = h.denials; month = h.month; before = h.before }
+service_fits s denial f t =
     let r = s.point in
     let q = (skip (lit< tt) (call_passed s (report denial) t).own).0 in
-    let v = valid_parts r f.record_fits in
-    let h = old_service r v in
-    let one : StateFits (one_denial s) =
-    record_kept s _ f
-    (with_service_lem r (with_denials r.service (r.service.denials + 1)) v
-    (record {
-      run = h.run;
-      serving = h.serving;
-      denials = omega (arith, h.denials, eqb-false r.service.denials 2 q);
-      month = h.month;
-      before = h.before;
-    }))
-    f.twelve in
-    choice StateFits (eqb r.service.denials 1) (discarded_fits (one_denial s) one) one
-
-keep_permission : (s : State) → StateFits s → accepted s (report permission) ≡ true → StateFits (after_report s permission)
-unfolding after_report
-keep_permission s f t =
-    let r = s.point in
-    let v = valid_parts r f.record_fits in
-    let h = old_service r v in
-    record_kept s _ f
-    (with_service_lem r (with_denials r.service 0) v (record { run = h.run; serving = h.serving; denials = lit≤ tt; month = h.month; before = h.before }))
-    f.twelve
+    let h = old_service r (valid_parts r f.record_fits) in
+    let most : r.service.denials + 1 ≤ 2 = omega (arith, h.denials, eqb-false r.service.denials 2 q) in
+    record { run = h.run; serving = h.serving; denials = most; month = h.month; before = h.before }
+service_fits s permission f t =
+    let h = old_service s.point (valid_parts s.point f.record_fits) in
+    record { run = h.run; serving = h.serving; denials = lit≤ tt; month = h.month; before = h.before }
 
 -- A POINT GOES ON, while the month is not closed
 keeps_reading : (s : State) (x : MeterReading) → StateFits s → accepted s (read x) ≡ true → StateFits (after_reading s x)
@@ -280,10 +250,11 @@ keeps_reading s (control_volume v) f t = keep_control_volume s v f t
 keeps_reading s (neighbour source v) f t = keep_neighbour s source v f t
 
 keeps_report : (s : State) (x : Report) → StateFits s → accepted s (report x) ≡ true → StateFits (after_report s x)
-keeps_report s (failure reason) f t = keep_failure s reason f t
-keeps_report s admission f t = keep_admission s f t
-keeps_report s denial f t = keep_denial s f t
-keeps_report s permission f t = keep_permission s f t
+unfolding after_report
+keeps_report s x f t =
+    let kept : StateFits (with_service_after s x) =
+    record_kept s _ f (with_service_lem s.point _ (valid_parts s.point f.record_fits) (service_fits s x f t)) f.twelve in
+    choice StateFits (discards_reading s.point.service x) (discarded_fits (with_service_after s x) kept) kept
 
 pub keeps : (s : State) (c : Call) → is_closing c ≡ false → StateFits s → accepted s c ≡ true → StateFits (accept s c)
 unfolding is_closing accept

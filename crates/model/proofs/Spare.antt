@@ -17,10 +17,12 @@ use Rattle.calendar.proofs.Laws.{limits, days_high, month_hours_lem}
 use Rattle.store.specs.Store.{as_row, with_hours, without_hours}
 use Rattle.store.proofs.Laws.{at_row, length_row, length_put, at_put_before, at_put_in, at_put_after}
 use Rattle.rules.specs.Calls.{Opening, MeterReading, billing_hours, control_hours, billing_volume, control_volume, neighbour}
-use Rattle.rules.specs.Calls.{Report, failure, admission, denial, permission, Call, read, report, closing}
+use Rattle.rules.specs.Calls.{Report, Call, read, report, closing}
 use Rattle.rules.specs.Rules.{rules, becomes_past}
 use Rattle.model.specs.Refusals.{reading_number, own_refusal}
-use Rattle.model.specs.Model.{State, discarded, one_denial, row_of, inputs, past_after, rows_after, closed_with, after_reading, after_report, accept, accepted}
+use Rattle.model.specs.Model.{State, discarded, discards_reading, with_service_after, row_of, inputs, past_after, rows_after, closed_with, after_reading}
+use Rattle.model.specs.Model.{after_report}
+use Rattle.model.specs.Model.{accept, accepted}
 use Rattle.model.specs.Opening.{opened}
 use Rattle.model.specs.Sound.{StateFits, ZeroFrom, month_used, Unused}
 use Rattle.model.proofs.Laws.{reading_passed, month_most}
@@ -194,12 +196,9 @@ reading_spare s (neighbour source v) f u t = spare_neighbour s source v u
 
 report_spare : (s : State) (x : Report) → StateFits s → Unused s → Unused (after_report s x)
 unfolding after_report
-report_spare s (failure reason) f u = spare_discarded _ f.words (spare_served s _ u refl refl refl refl refl)
-report_spare s admission f u = spare_served s _ u refl refl refl refl refl
-report_spare s denial f u =
-    let one = spare_served s (one_denial s) u refl refl refl refl refl in
-    by_cases (eqb s.point.service.denials 1) (λ y. rw y (spare_discarded (one_denial s) f.words one)) (λ n. rw n one)
-report_spare s permission f u = spare_served s _ u refl refl refl refl refl
+report_spare s x f u =
+    let one = spare_served s (with_service_after s x) u refl refl refl refl refl in
+    by_cases (discards_reading s.point.service x) (λ y. rw y (spare_discarded (with_service_after s x) f.words one)) (λ n. rw n one)
 
 pub call_spare : (s : State) (c : Call) → StateFits s → Unused s → accepted s c ≡ true → Unused (accept s c)
 unfolding accept

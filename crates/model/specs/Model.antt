@@ -1,5 +1,5 @@
 -- The model of a point: what each call answers, and the record and store that it leaves (document 01, 'What a point keeps' and 'Closing').
-use Rattle.std.specs.Prelude.{ℕ, ◌+◌, ◌-◌, ◌≡◌, Bool, not, cond, ◌&&◌, List, [], length, set, eqb, leb, Option, option_map}
+use Rattle.std.specs.Prelude.{ℕ, ◌+◌, ◌-◌, ◌≡◌, Bool, true, false, not, cond, ◌&&◌, List, [], length, set, eqb, leb, Option, option_map}
 use Rattle.numbers.specs.Lists.{at}
 use Rattle.calendar.specs.declared.Date.{Date}
 use Rattle.calendar.specs.Calendar.{open_hours, month_number, date_of, next_month}
@@ -46,17 +46,11 @@ fault_within_year fault month = not (eqb fault 0) && leb month (fault + 12)
 -- out of service. With reason 1 or 2: a repeat makes the run 0; then, repeat or not, the month is kept as the last fault
 abbrev pub after_failure : Service → Date → ℕ → Service
 after_failure s d reason =
-    record {
+    record s {
       run = cond (is_fault reason && fault_within_year s.fault (month_number d)) 0 s.run;
       serving = 0;
-      denials = s.denials;
       fault = cond (is_fault reason) (month_number d) s.fault;
     }
-
--- DENIAL: one more
-abbrev pub one_denial : State → State
-one_denial s =
-    state (with_service s.point (with_denials s.point.service (s.point.service.denials + 1))) s.store
 
 -- CLOSING
 -- a reading that the record holds, of a meter of a kind, with the hours of its row
@@ -115,9 +109,7 @@ rows_after new hs d store = cond new (with_hours (row_of d) hs store) store
 -- the total grows, rows 12 and 13 and the readings clear, the next month opens
 abbrev pub point_after : Bool → ℕ → Record → Record
 point_after new volume r =
-    record {
-      opened = r.opened;
-      contract = r.contract;
+    record r {
       date = next_month r.date;
       service = with_run r.service (run_after new r.service.run);
       past = past_after new r.past r.date;
@@ -140,15 +132,27 @@ after_reading s (billing_volume v) = state (with_readings s.point (with_billing 
 after_reading s (control_volume v) = state (with_readings s.point (with_control s.point.readings (given_as v))) s.store
 after_reading s (neighbour source v) = state (with_readings s.point (with_source s.point.readings source (given_as v))) s.store
 
-unfoldable pub after_report : State → Report → State
-after_report s (failure reason) =
-    discarded (state (with_service s.point (after_failure s.point.service s.point.date reason)) s.store)
+-- what a report makes of the service
+abbrev pub service_after : Service → Date → Report → Service
+service_after s d (failure reason) = after_failure s d reason
 -- back in service
-after_report s admission = state (with_service s.point (with_serving s.point.service 1)) s.store
--- the second denial discards this month's billing reading
-after_report s denial = cond (eqb s.point.service.denials 1) (discarded (one_denial s)) (one_denial s)
+service_after s d admission = with_serving s 1
+-- one more
+service_after s d denial = with_denials s (s.denials + 1)
 -- denials 0
-after_report s permission = state (with_service s.point (with_denials s.point.service 0)) s.store
+service_after s d permission = with_denials s 0
+
+-- a failure and the second denial discard this month's billing reading
+abbrev pub discards_reading : Service → Report → Bool
+discards_reading s (failure reason) = true
+discards_reading s denial = eqb s.denials 1
+discards_reading s _ = false
+
+abbrev pub with_service_after : State → Report → State
+with_service_after s x = state (with_service s.point (service_after s.point.service s.point.date x)) s.store
+
+unfoldable pub after_report : State → Report → State
+after_report s x = cond (discards_reading s.point.service x) (discarded (with_service_after s x)) (with_service_after s x)
 
 unfoldable pub accept : State → Call → State
 accept s (read reading) = after_reading s reading

@@ -34,6 +34,9 @@ no_readings = record { billing = not_given; control = not_given; first = not_giv
 abbrev pub no_past : Past
 no_past = record { years = zeros 12; latest = 0 }
 
+abbrev pub no_service : Service
+no_service = record { run = 0; serving = 0; denials = 0; fault = 0 }
+
 -- an opening refused returns a record of zeros, not open
 abbrev pub zero_record : Record
 zero_record =
@@ -41,7 +44,7 @@ zero_record =
       opened = 0;
       contract = record { billing = 0; control = 0; basis = 0; power = no_power; cable = no_cable };
       date = record { year = 0; month = 0 };
-      service = record { run = 0; serving = 0; denials = 0; fault = 0 };
+      service = no_service;
       past = no_past;
       readings = no_readings;
       total = kwh 0;
@@ -49,7 +52,7 @@ zero_record =
 
 -- in service, with no run, denial or fault
 abbrev pub fresh_service : Service
-fresh_service = record { run = 0; serving = 1; denials = 0; fault = 0 }
+fresh_service = record no_service { serving = 1 }
 
 -- as an opening leaves it: the point is in service, the named month is open, all else is 0 or missing
 abbrev pub fresh_record : Contract → Date → Record
@@ -66,45 +69,40 @@ fresh_record c d =
 
 -- A PART REPLACED
 abbrev pub with_contract : Record → Contract → Record
-with_contract r c =
-    record { opened = r.opened; contract = c; date = r.date; service = r.service; past = r.past; readings = r.readings; total = r.total }
+with_contract r c = record r { contract = c }
 
 abbrev pub with_date : Record → Date → Record
-with_date r d =
-    record { opened = r.opened; contract = r.contract; date = d; service = r.service; past = r.past; readings = r.readings; total = r.total }
+with_date r d = record r { date = d }
 
 abbrev pub with_service : Record → Service → Record
-with_service r s =
-    record { opened = r.opened; contract = r.contract; date = r.date; service = s; past = r.past; readings = r.readings; total = r.total }
+with_service r s = record r { service = s }
 
 abbrev pub with_past : Record → Past → Record
-with_past r p =
-    record { opened = r.opened; contract = r.contract; date = r.date; service = r.service; past = p; readings = r.readings; total = r.total }
+with_past r p = record r { past = p }
 
 abbrev pub with_readings : Record → Readings → Record
-with_readings r g =
-    record { opened = r.opened; contract = r.contract; date = r.date; service = r.service; past = r.past; readings = g; total = r.total }
+with_readings r g = record r { readings = g }
 
 abbrev pub with_serving : Service → ℕ → Service
-with_serving s flag = record { run = s.run; serving = flag; denials = s.denials; fault = s.fault }
+with_serving s flag = record s { serving = flag }
 
 abbrev pub with_denials : Service → ℕ → Service
-with_denials s n = record { run = s.run; serving = s.serving; denials = n; fault = s.fault }
+with_denials s n = record s { denials = n }
 
 abbrev pub with_run : Service → ℕ → Service
-with_run s n = record { run = n; serving = s.serving; denials = s.denials; fault = s.fault }
+with_run s n = record s { run = n }
 
 abbrev pub with_billing : Readings → Reading → Readings
-with_billing g x = record { billing = x; control = g.control; first = g.first; second = g.second }
+with_billing g x = record g { billing = x }
 
 abbrev pub with_control : Readings → Reading → Readings
-with_control g x = record { billing = g.billing; control = x; first = g.first; second = g.second }
+with_control g x = record g { control = x }
 
 abbrev pub with_first : Readings → Reading → Readings
-with_first g x = record { billing = g.billing; control = g.control; first = x; second = g.second }
+with_first g x = record g { first = x }
 
 abbrev pub with_second : Readings → Reading → Readings
-with_second g x = record { billing = g.billing; control = g.control; first = g.first; second = x }
+with_second g x = record g { second = x }
 
 -- the reading of one of the four replaced
 abbrev pub with_reading : Readings → ReadingOf → Reading → Readings
