@@ -21,9 +21,7 @@ use Rattle.model.specs.Model.{after_reading, after_report, accept, accepted}
 use Rattle.model.proofs.Laws.{reading_passed}
 use Rattle.model.proofs.Keeps.{call_passed}
 use Rattle.model.proofs.GoesOn.{call_sound}
-use Rattle.history.specs.Book.{Entry, Book, control, closed, of_kind, month_of, denials_of, billing_of}
-use Rattle.history.specs.Book.{this_months}
-use Rattle.history.specs.Book.{became_past, work_out}
+use Rattle.history.specs.Book.{Entry, Book, control, closed, of_kind, month_of, denials_of, billing_of, this_months, became_past, work_out}
 use Rattle.history.proofs.Rows.{Holds, replaced_at, holds_same, holds_put}
 use Rattle.history.proofs.View.{given_by, hours_read, last_in, contents, point_of, seen, look_backs, OfItsMeter, Entered, MonthsClosed, Shows}
 use Rattle.history.proofs.Months.{last_is_any}

@@ -15,8 +15,7 @@ use Rattle.rules.specs.Calls.{Opening, is_closing, marks_of}
 use Rattle.rules.specs.Rules.{Measured, missing, hourly, whole, Stated}
 use Rattle.model.specs.Model.{State, state, row_of}
 use Rattle.model.specs.Sound.{Sound}
-use Rattle.history.specs.Book.{Entry, Book, control, failed, admitted, closed, of_kind}
-use Rattle.history.specs.Book.{source_or_reason, measured_by, reading_of}
+use Rattle.history.specs.Book.{Entry, Book, control, failed, admitted, closed, of_kind, source_or_reason, measured_by, reading_of}
 use Rattle.history.specs.Book.{is_from, is_faulty, month_of, denials_of, discards, billing_of, this_months, as_stated, source_of, is_repeat}
 use Rattle.history.specs.Book.{became_past, run_of, volumes, work_out}
 use Rattle.history.proofs.Rows.{Holds}
@@ -93,8 +92,8 @@ seen o es store = state (point_of o es) store
 
 -- what unfolds with an entry, by one name
 unfoldable pub look_backs : Unit {0}
-unfolding given_by stated_by hours_read serving_of fault_of latest_of year_in last_in
-    of_kind source_or_reason measured_by reading_of marks_of is_from is_faulty
+unfolding given_by stated_by hours_read serving_of fault_of latest_of year_in last_in of_kind source_or_reason measured_by reading_of marks_of
+    is_from is_faulty
     month_of denials_of discards billing_of this_months as_stated source_of
     is_repeat became_past run_of volumes work_out is_closing
 look_backs = tt

@@ -29,8 +29,7 @@ use Rattle.rules.specs.Rules.{rules, becomes_past}
 use Rattle.model.specs.Refusals.{refuse, refuse_reading, closing_number, reading_number, report_number, own_refusal, open_refusal}
 use Rattle.model.specs.declared.Answer.{Answer}
 use Rattle.model.specs.Model.{State, fault_within_year, service_after, discards_reading, inputs, closed_with, after_reading, after_report, accept, accepted}
-use Rattle.model.specs.Model.{state, refusal, leaves, answer}
-use Rattle.model.specs.Model.{Does}
+use Rattle.model.specs.Model.{state, refusal, leaves, answer, Does}
 use Rattle.model.specs.Opening.{opens, opened, open_leaves, open_answer, Opens}
 use Rattle.model.specs.Sound.{Room, Sound, StateFits}
 use Rattle.model.proofs.Laws.{Allowed, allowed}
