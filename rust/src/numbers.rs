@@ -71,28 +71,26 @@ impl<const N: usize> Numbers for [u32; N] {
     }
 }
 
-impl Numbers for Kw {
-    const COUNT: usize = 1;
+/// A power or a volume stands as its number.
+macro_rules! units {
+    ($($unit:ident $number:ident;)*) => {$(
+        impl Numbers for $unit {
+            const COUNT: usize = 1;
 
-    fn give(&self, to: &mut IterMut<u64>) {
-        self.0.give(to);
-    }
+            fn give(&self, to: &mut IterMut<u64>) {
+                self.0.give(to);
+            }
 
-    fn take(from: &mut Iter<u64>) -> Option<Kw> {
-        u32::take(from).map(Kw)
-    }
+            fn take(from: &mut Iter<u64>) -> Option<$unit> {
+                $number::take(from).map($unit)
+            }
+        }
+    )*};
 }
 
-impl Numbers for Kwh {
-    const COUNT: usize = 1;
-
-    fn give(&self, to: &mut IterMut<u64>) {
-        self.0.give(to);
-    }
-
-    fn take(from: &mut Iter<u64>) -> Option<Kwh> {
-        u64::take(from).map(Kwh)
-    }
+units! {
+    Kw u32;
+    Kwh u64;
 }
 
 /// A struct stands as its fields, in the order of the table.
