@@ -1,13 +1,17 @@
 -- Marks that pass and their nearest neighbours that are refused, C and capacity, by computation. Assumes nothing.
-use Prim.Native.Nat.{ℕ}
+use Prim.Native.Nat.{ℕ, zero, suc, ◌<◌}
 use mathlib.Core.Path.{◌≡◌, refl}
-use mathlib.Core.Bool.{true, false}
+use mathlib.Core.Bool.{Bool, true, false}
 use mathlib.Core.List.{List, [], ◌∷◌, ◌++◌}
-use lib.ListN.{replicate}
+use native.Mathlib.Omega.{arith}
+use lib.ListN.{get_or, replicate}
 use Rattle.numbers.specs.Lists.{none_above}
 use Rattle.numbers.specs.Rounding.{half_up}
+use Rattle.sharing.specs.Shares.{portion, taken, apart_at, shares_apart}
 use Rattle.marks.specs.declared.Survey.{Survey}
 use Rattle.marks.specs.Marks.{working_days, crowded, unmatched, high, survey_with, survey_of, capacity_sum, capacity_of}
+use Rattle.marks.specs.Marks.{peak_at, peak_count, day_of, is_unmatched, capacity_in}
+use Rattle.marks.specs.Peak.{peak_part, peak_rule, Flags}
 
 -- a day that has some peaks from its first hour on, and then some capacity hours that are no peaks
 abbrev day : ℕ → ℕ → ℕ → List ℕ
@@ -57,3 +61,90 @@ sums = (refl, refl, refl)
 pub capacities : (capacity_of 9 2 ≡ 5) × (capacity_of 6 4 ≡ 2) × (capacity_of 5 4 ≡ 1) × (capacity_of 9 0 ≡ 0)
 unfolding capacity_of half_up
 capacities = (refl, refl, refl, refl)
+
+-- with a single working day capacity is C; what is answered is cut to what 32 bits hold
+pub cut :
+    (capacity_of 7 1 ≡ 7)
+    × (capacity_in 9 2 ≡ 5)
+    × (capacity_in 4294967295 1 ≡ 4294967295)
+    × (capacity_in 4294967296 1 ≡ 4294967295)
+    × (capacity_in 8589934592 2 ≡ 4294967295)
+    × (capacity_in 8589934588 2 ≡ 4294967294)
+unfolding capacity_of half_up
+cut = (refl, refl, refl, refl, refl, refl)
+
+-- hour 743 counts, and an hour 744 would not
+pub last_hour : capacity_sum (replicate 743 0 ++ (2 ∷ 2 ∷ [])) (replicate 743 0 ++ (5 ∷ 6 ∷ [])) ≡ 5
+unfolding capacity_sum
+last_hour = refl
+
+-- one mark of 1, two of 2 and four of 3: n counts 1 and 3
+pub peaks_counted : peak_count (0 ∷ 1 ∷ 2 ∷ 2 ∷ 3 ∷ 3 ∷ 3 ∷ 3 ∷ []) ≡ 5
+unfolding peak_count
+peaks_counted = refl
+
+-- three days, of which only day 1 is marked: it has hours 24 to 47
+abbrev middle : List ℕ
+middle = replicate 24 0 ++ (replicate 24 3 ++ replicate 24 0)
+
+pub days_apart :
+    (day_of middle 0 ≡ record { peaks = 0; capacities = 0 })
+    × (day_of middle 1 ≡ record { peaks = 24; capacities = 24 })
+    × (day_of middle 2 ≡ record { peaks = 0; capacities = 0 })
+days_apart = (refl, refl, refl)
+
+-- 43 by what a day has: nothing; one capacity hour, and peaks beside it; two; a peak alone
+pub matches :
+    (is_unmatched (record { peaks = 0; capacities = 0 }) ≡ false)
+    × (is_unmatched (record { peaks = 0; capacities = 1 }) ≡ false)
+    × (is_unmatched (record { peaks = 2; capacities = 1 }) ≡ false)
+    × (is_unmatched (record { peaks = 0; capacities = 2 }) ≡ true)
+    × (is_unmatched (record { peaks = 1; capacities = 0 }) ≡ true)
+matches = (refl, refl, refl, refl, refl)
+
+-- marks that are no whole days: 23 are no day, and of 25 the last is none's
+pub parts_of_days :
+    (survey_of (replicate 23 3) ≡ record { high = false; crowded = false; unmatched = false; peaks = 0; days = 0 })
+    × (survey_of (replicate 23 0 ++ (3 ∷ 3 ∷ [])) ≡ record { high = false; crowded = false; unmatched = false; peaks = 1; days = 1 })
+unfolding survey_of survey_with high crowded unmatched working_days none_above
+parts_of_days = (refl, refl)
+
+-- the third of three days alone is at fault
+pub third_day :
+    ((survey (day 1 1 22 ++ (day 0 0 24 ++ day 17 1 6))).crowded ≡ true)
+    × ((survey (day 1 1 22 ++ (day 0 0 24 ++ day 17 1 6))).unmatched ≡ false)
+    × ((survey (day 1 1 22 ++ (day 0 0 24 ++ day 0 2 22))).unmatched ≡ true)
+    × ((survey (day 1 1 22 ++ (day 0 0 24 ++ day 0 2 22))).crowded ≡ false)
+unfolding survey_of survey_with high crowded unmatched working_days none_above
+third_day = (refl, refl, refl, refl)
+
+-- six hours with peaks at 1 and 3, and capacity hours beside them
+abbrev six : List ℕ
+six = 0 ∷ 1 ∷ 2 ∷ 3 ∷ 2 ∷ 2 ∷ []
+
+-- A is V, or n × P where that is less
+pub peak_parts : (peak_part 10 3 six ≡ 6) × (peak_part 5 3 six ≡ 5) × (peak_part 4 0 six ≡ 0)
+unfolding peak_part peak_count
+peak_parts = (refl, refl, refl)
+
+-- examples h) and i), rounded half up (E2), and marks without a peak: V goes evenly over all hours
+pub peak_rules :
+    (peak_rule 10 3 six ≡ 1 ∷ 3 ∷ 1 ∷ 3 ∷ 1 ∷ 1 ∷ [])
+    × (peak_rule 5 3 six ≡ 0 ∷ 3 ∷ 0 ∷ 2 ∷ 0 ∷ 0 ∷ [])
+    × (peak_rule 4 0 six ≡ 1 ∷ 0 ∷ 1 ∷ 0 ∷ 1 ∷ 1 ∷ [])
+    × (peak_rule 7 3 (0 ∷ 2 ∷ 0 ∷ []) ≡ 2 ∷ 3 ∷ 2 ∷ [])
+unfolding peak_rule peak_part peak_count shares_apart apart_at taken portion half_up
+peak_rules = (refl, refl, refl, refl)
+
+-- flags of three hours, of which the second is no peak; what stands behind these hours says nothing
+abbrev flags : List Bool
+flags = true ∷ false ∷ true ∷ replicate 741 true
+
+flag : (h : ℕ) → h < 3 → get_or flags h false ≡ peak_at (1 ∷ 2 ∷ 3 ∷ []) h
+flag zero l = refl
+flag (suc zero) l = refl
+flag (suc (suc zero)) l = refl
+flag (suc (suc (suc h))) l = absurd (omega (arith, l))
+
+pub flagged : Flags (1 ∷ 2 ∷ 3 ∷ []) flags 3
+flagged = record { long = refl; is = flag }

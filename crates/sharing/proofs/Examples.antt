@@ -3,8 +3,10 @@ use mathlib.Core.Path.{◌≡◌, refl}
 use mathlib.Core.Bool.{true, false}
 use mathlib.Core.List.{[], ◌∷◌}
 use lib.ListN.{replicate}
+use Rattle.numbers.specs.Lists.{padded}
 use Rattle.numbers.specs.Rounding.{half_up}
 use Rattle.sharing.specs.Shares.{portion, taken, spread, shares_over, apart_at, shares_apart, shares, stretched, chosen_at, month_fits, weights_fit, share_in}
+use Rattle.sharing.specs.Shares.{ones, every, Shared}
 
 -- over the first and the third of three hours: by their weights; by 1 each where these sum to 0; and over all where none is chosen
 pub selections :
@@ -50,3 +52,28 @@ pub places :
     × (share_in 10 [] 0 ≡ 0)
 unfolding share_in month_fits weights_fit shares_over spread taken portion half_up
 places = (refl, refl, refl, refl, refl, refl)
+
+-- every hour is chosen, so each gets its part by weight; an even sharing has a weight of 1 in each; behind a selection no hour is chosen
+pub weighed :
+    (shares 10 (1 ∷ 7 ∷ 2 ∷ []) ≡ 1 ∷ 7 ∷ 2 ∷ [])
+    × (every 3 ≡ true)
+    × (ones 3 ≡ 1 ∷ 1 ∷ 1 ∷ [])
+    × (chosen_at (true ∷ []) 0 ≡ true)
+    × (chosen_at (true ∷ []) 1 ≡ false)
+unfolding shares_over spread taken portion half_up
+weighed = (refl, refl, refl, refl, refl)
+
+-- a buffer may be longer than the greatest month; the greatest sum of weights, and one above it, which gets nothing
+pub rooms :
+    (month_fits 0 744 745 ≡ true)
+    × (share_in 1 (2232000000 ∷ []) 0 ≡ 1)
+    × (share_in 1 (2232000001 ∷ []) 0 ≡ 0)
+unfolding share_in month_fits weights_fit shares_over spread taken portion half_up
+rooms = (refl, refl, refl)
+
+-- a buffer of three words gets the hours of a sharing, and 0 from their end on; without one it stays
+pub buffers :
+    Shared true (4 ∷ 3 ∷ []) (7 ∷ 8 ∷ 9 ∷ []) (4 ∷ 3 ∷ 0 ∷ []) true
+    × Shared false (4 ∷ 3 ∷ []) (7 ∷ 8 ∷ 9 ∷ []) (7 ∷ 8 ∷ 9 ∷ []) false
+unfolding padded
+buffers = (record { done = refl; left = refl }, record { done = refl; left = refl })

@@ -2,13 +2,14 @@
 use mathlib.Core.Path.{◌≡◌, refl}
 use mathlib.Core.Bool.{true, false}
 use mathlib.Core.List.{List, [], ◌∷◌, ◌++◌}
-use Prim.Native.Nat.{ℕ}
+use Prim.Native.Nat.{ℕ, ◌*◌}
 use native.Mathlib.Omega.{arith}
 use lib.ListN.{length, take, drop, replicate, length-replicate}
 use lib.Seq.{take_at, drop_at}
 use Rattle.numbers.specs.Lists.{zeros, padded, none_above}
 use Rattle.store.specs.Store.{row_fits}
 use Rattle.store.specs.Store.{as_row, put_row, written_in, store_fits}
+use Rattle.store.specs.Store.{row_part, with_hours, without_hours, empty_store}
 use Rattle.numbers.proofs.Laws.{at_zeros, none_above_from}
 
 -- each limit, and one outside it
@@ -56,3 +57,32 @@ from_month ys = rw (
 pub months : (store_fits (zeros 8928 ++ (1000000 ∷ [])) ≡ true) × (store_fits (zeros 8928 ++ (1000001 ∷ [])) ≡ false)
 unfolding none_above
 months = (from_month (1000000 ∷ []), from_month (1000001 ∷ []))
+
+-- row 1 of a store that ends with its fourth word: its first two, and no more than it has
+abbrev short : List ℕ
+short = replicate 744 3 ++ (5 ∷ 6 ∷ 7 ∷ 8 ∷ [])
+
+pub parts : (row_part short 1 2 ≡ 5 ∷ 6 ∷ []) × (row_part short 1 0 ≡ []) × (row_part short 0 2 ≡ 3 ∷ 3 ∷ []) × (row_part short 2 2 ≡ [])
+parts = (refl, refl, refl, refl)
+
+-- two hours written into row 1, and row 0 cleared: the words of the row from the last before it on, and those after it
+pub changed :
+    (take 4 (drop 743 (with_hours 1 (7 ∷ 8 ∷ []) (replicate 1490 3))) ≡ 3 ∷ 7 ∷ 8 ∷ 0 ∷ [])
+    × (drop 1487 (with_hours 1 (7 ∷ 8 ∷ []) (replicate 1490 3)) ≡ 0 ∷ 3 ∷ 3 ∷ [])
+    × (take 2 (without_hours 0 short) ≡ 0 ∷ 0 ∷ [])
+    × (drop 743 (without_hours 0 short) ≡ 0 ∷ 5 ∷ 6 ∷ 7 ∷ 8 ∷ [])
+unfolding put_row padded
+changed = (refl, refl, refl, refl)
+
+-- as many hours as a row holds, written into the last row of a store of 14; there is no row after it, and no row holds one more
+pub written :
+    (store : List ℕ) → length store ≡ 10416
+    → (written_in 13 (replicate 744 7) store ≡ with_hours 13 (replicate 744 7) store)
+    × (written_in 14 (replicate 744 7) store ≡ store)
+    × (written_in 13 (replicate 745 7) store ≡ store)
+unfolding written_in row_fits
+written store e = (rw e refl, rw e refl, rw e refl)
+
+-- an opening leaves 14 rows of 744
+pub opened : length empty_store ≡ 14 * 744
+opened = length-replicate {A = ℕ} 10416 0
