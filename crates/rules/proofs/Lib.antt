@@ -1,2 +1,3 @@
 pub mod Examples
+pub mod GroundExamples
 pub mod Laws
