@@ -1,12 +1,12 @@
--- The refusals number by number, and what the calls leave, on values. By computation; assumes nothing.
+-- The refusals number by number, on values. By computation; assumes nothing.
 use Prim.Native.Nat.{ℕ}
 use mathlib.Core.Path.{◌≡◌, refl}
 use mathlib.Core.Bool.{true, false}
 use mathlib.Core.List.{List, [], ◌∷◌, ◌++◌}
 use lib.ListN.{set, replicate}
-use Rattle.numbers.specs.Lists.{at, zeros, padded, none_above}
+use Rattle.numbers.specs.Lists.{zeros, none_above}
 use Rattle.calendar.specs.declared.Date.{Date}
-use Rattle.calendar.specs.Calendar.{leap_year, is_month, month_days, month_hours, open_hours, month_number, date_of, next_month}
+use Rattle.calendar.specs.Calendar.{leap_year, is_month, month_days, month_hours, open_hours, month_number}
 use Rattle.numbers.specs.Rounding.{half_up}
 use Rattle.sharing.specs.Shares.{portion, taken, spread, shares_over}
 use Rattle.power.specs.declared.Cable.{Cable}
@@ -15,22 +15,20 @@ use Rattle.marks.specs.Marks.{high, crowded, unmatched}
 use Rattle.contract.specs.declared.Contract.{Contract}
 use Rattle.contract.specs.Contract.{no_cable, kept}
 use Rattle.record.specs.declared.Record.{Record}
+use Rattle.record.specs.declared.Readings.{Readings}
 use Rattle.record.specs.declared.Service.{Service}
-use Rattle.record.specs.Record.{given_as, no_readings, zero_record, fresh_record, fresh_service, with_date, with_service, with_readings, with_past}
+use Rattle.record.specs.Record.{given_as, no_readings, zero_record, fresh_record, with_date, with_service, with_readings}
 use Rattle.record.specs.Record.{with_serving, with_denials, with_billing, with_control, with_first, with_second}
 use Rattle.validity.specs.Valid.{volume_limit, valid}
-use Rattle.store.specs.Store.{put_row, store_fits}
+use Rattle.store.specs.Store.{store_fits}
 use Rattle.rules.specs.Calls.{Opening, MeterReading, billing_hours, control_hours, billing_volume, control_volume, neighbour}
 use Rattle.rules.specs.Calls.{Report, failure, admission, denial, permission, read, report, closing}
-use Rattle.rules.specs.Rules.{becomes_past}
-use Rattle.model.specs.Refusals.{refuse, refuse_anyone, reading_number, report_number, own_refusal, open_refusal}
-use Rattle.model.specs.Model.{State, state, fault_within_year, after_failure, past_month, past_in, closed_with, after_reading, after_report, accept}
-use Rattle.std.specs.Prelude.{None, Some}
+use Rattle.model.specs.Refusals.{refuse, refuse_anyone, refuse_reading, reading_number, report_number, own_refusal, open_refusal}
+use Rattle.model.specs.Refusals.{is_barred, not_month, hour_above, volume_above, source_given, is_source, is_reason}
 
 unfoldable pub refusal_definitions : Unit {0}
 unfolding refuse reading_number report_number own_refusal open_refusal valid volume_limit none_above store_fits is_month month_days month_hours
-    open_hours leap_year month_number
-    date_of cable_fits agreed_fits list_fits high crowded unmatched accept after_reading after_report past_month past_in
+    open_hours leap_year month_number cable_fits agreed_fits list_fits high crowded unmatched
 refusal_definitions = tt
 
 abbrev pub on : ℕ → ℕ → Date
@@ -43,11 +41,8 @@ contract b k = record { billing = b; control = k; basis = 1; power = record { 0 
 abbrev pub point : ℕ → ℕ → Record
 point b k = fresh_record (contract b k) (on 2023 2)
 
-abbrev served : Record → Service → Record
-served r s = with_service r s
-
 -- run, in service or not, denials, month of the last fault
-abbrev served_so : ℕ → ℕ → ℕ → ℕ → Service
+abbrev pub served_so : ℕ → ℕ → ℕ → ℕ → Service
 served_so run serving denials fault = record { run = run; serving = serving; denials = denials; fault = fault }
 
 -- ANYONE: 1 before 2 before 3 before the call's own
@@ -59,8 +54,17 @@ any_number :
 unfolding refusal_definitions
 any_number = (refl, refl, refl, refl, refl, refl, refl)
 
+-- a test that holds gives its number, and else the rest of the list has its say
+first_number :
+    (refuse true 5 7 ≡ 5)
+    × (refuse false 5 7 ≡ 7)
+    × (refuse true 5 0 ≡ 5)
+    × (refuse false 5 0 ≡ 0)
+unfolding refuse
+first_number = (refl, refl, refl, refl)
+
 -- OPENING
-abbrev opening : ℕ → ℕ → ℕ → ℕ → ℕ → ℕ → Cable → List ℕ → ℕ → Opening
+abbrev pub opening : ℕ → ℕ → ℕ → ℕ → ℕ → ℕ → Cable → List ℕ → ℕ → Opening
 opening y m b k basis p cable currents place =
     record {
       asked = record { billing = b; control = k; basis = basis; power = record { 0 = p }; cable = cable };
@@ -91,6 +95,23 @@ opening_numbers :
 unfolding refusal_definitions
 opening_numbers = (refl, refl, refl, refl, refl, refl, refl, refl, refl, refl, refl, refl, refl, refl, refl, refl, refl, refl, refl, refl)
 
+-- each limit of an opening from its inner side, and number 1 for a store of a word too many
+opening_limits :
+    (open_refusal 10417 (opening 2023 1 1 0 1 100 no_cable [] 0) ≡ 1)
+    × (open_refusal 10416 (opening 2014 1 1 0 1 1 no_cable [] 0) ≡ 0)
+    × (open_refusal 10416 (opening 2999 12 2 1 1 100 no_cable [] 0) ≡ 0)
+    × (open_refusal 10416 (opening 2023 13 1 0 1 100 no_cable [] 0) ≡ 10)
+    × (open_refusal 10416 (opening 2023 1 1 2 2 1 no_cable (2000 ∷ []) 0) ≡ 0)
+    × (open_refusal 10416 (opening 2023 1 1 2 2 1000000 no_cable (replicate 64 1) 63) ≡ 0)
+    × (open_refusal 10416 (opening 2023 1 1 2 2 0 no_cable (replicate 64 1) 63) ≡ 12)
+    × (open_refusal 10416 (opening 2023 1 1 2 1 1000001 no_cable [] 0) ≡ 12)
+    × (open_refusal 10416 (opening 2023 1 1 2 2 1000000 no_cable (replicate 64 1) 64) ≡ 14)
+    × (open_refusal 10416 (opening 2023 1 1 2 3 0 (cable 1 1 1000 1) [] 0) ≡ 0)
+    × (open_refusal 10416 (opening 2023 1 1 2 3 0 (cable 1 1 1001 1) [] 0) ≡ 13)
+    × (open_refusal 10416 (opening 2023 1 1 2 3 0 (cable 1 1 900 2) [] 0) ≡ 13)
+unfolding refusal_definitions
+opening_limits = (refl, refl, refl, refl, refl, refl, refl, refl, refl, refl, refl, refl)
+
 -- what is kept: P on basis 1 and 2, with a share of 0 too, the cable alone on basis 3
 opening_keeps :
     (kept (opening 2023 1 1 0 1 100 (cable 5 5 5 1) (9 ∷ []) 3).asked (9 ∷ []) 3 ≡ contract 1 0)
@@ -102,6 +123,69 @@ unfolding kept power_on shared_power shares_over spread taken portion half_up
 opening_keeps = (refl, refl, refl, refl, refl)
 
 -- METER READERS
+-- the lowest of 20 to 24 whose test holds, 0 where none does
+reading_order :
+    (refuse_reading true true true true true ≡ 20)
+    × (refuse_reading false true true true true ≡ 21)
+    × (refuse_reading false false true true true ≡ 22)
+    × (refuse_reading false false false true true ≡ 23)
+    × (refuse_reading false false false false true ≡ 24)
+    × (refuse_reading false false false false false ≡ 0)
+unfolding refuse
+reading_order = (refl, refl, refl, refl, refl, refl)
+
+-- barred is out of service or denials 2, whatever the run
+barred :
+    (is_barred (served_so 0 1 0 0) ≡ false)
+    × (is_barred (served_so 2 1 1 0) ≡ false)
+    × (is_barred (served_so 0 1 2 0) ≡ true)
+    × (is_barred (served_so 0 0 0 0) ≡ true)
+    × (is_barred (served_so 1 0 1 0) ≡ true)
+barred = (refl, refl, refl, refl, refl)
+
+-- T of February is 672 hours, and 696 in a leap year; an hour may be 1,000,000, and a volume T × 1,000,000
+limits :
+    (not_month (point 1 2) (replicate 671 0) ≡ true)
+    × (not_month (point 1 2) (replicate 672 0) ≡ false)
+    × (not_month (point 1 2) (replicate 673 0) ≡ true)
+    × (not_month (with_date (point 1 2) (on 2024 2)) (replicate 696 0) ≡ false)
+    × (hour_above (0 ∷ 1000000 ∷ []) ≡ false)
+    × (hour_above (0 ∷ 1000001 ∷ []) ≡ true)
+    × (hour_above [] ≡ false)
+    × (volume_above (point 1 2) 672000000 ≡ false)
+    × (volume_above (point 1 2) 672000001 ≡ true)
+    × (volume_above (with_date (point 1 2) (on 2024 2)) 696000000 ≡ false)
+    × (volume_above (with_date (point 1 2) (on 3000 1)) 744000000 ≡ false)
+unfolding refusal_definitions
+limits = (refl, refl, refl, refl, refl, refl, refl, refl, refl, refl, refl)
+
+-- sources are 1 and 2, and reasons 1 to 4
+sources :
+    (is_source 0 ≡ false)
+    × (is_source 1 ≡ true)
+    × (is_source 2 ≡ true)
+    × (is_source 3 ≡ false)
+    × (is_reason 0 ≡ false)
+    × (is_reason 1 ≡ true)
+    × (is_reason 2 ≡ true)
+    × (is_reason 3 ≡ true)
+    × (is_reason 4 ≡ true)
+    × (is_reason 5 ≡ false)
+sources = (refl, refl, refl, refl, refl, refl, refl, refl, refl, refl)
+
+abbrev given : Readings → Record
+given g = with_readings (point 1 1) g
+
+-- a neighbour reading is given for its own source alone
+source_is_given :
+    (source_given (given (with_first no_readings (given_as 0))) 1 ≡ true)
+    × (source_given (given (with_first no_readings (given_as 0))) 2 ≡ false)
+    × (source_given (given (with_second no_readings (given_as 0))) 1 ≡ false)
+    × (source_given (given (with_second no_readings (given_as 0))) 2 ≡ true)
+    × (source_given (given (with_control (with_billing no_readings (given_as 0)) (given_as 0))) 1 ≡ false)
+    × (source_given (given (with_control (with_billing no_readings (given_as 0)) (given_as 0))) 2 ≡ false)
+source_is_given = (refl, refl, refl, refl, refl, refl)
+
 abbrev hours : ℕ → List ℕ
 hours n = replicate n 7
 
@@ -118,10 +202,23 @@ reading_20 :
 unfolding refusal_definitions
 reading_20 = (refl, refl, refl, refl, refl, refl, refl, refl, refl)
 
-abbrev out : Record → Record
+-- a meter is the one that the reading names: another has the form of the reading, or there is none
+own_meter :
+    (number (point 1 2) (billing_hours (hours 672)) ≡ 0)
+    × (number (point 2 1) (billing_hours (hours 672)) ≡ 20)
+    × (number (point 0 1) (billing_hours (hours 672)) ≡ 20)
+    × (number (point 2 1) (control_hours (hours 672)) ≡ 0)
+    × (number (point 2 1) (billing_volume 5) ≡ 0)
+    × (number (point 0 2) (billing_volume 5) ≡ 20)
+    × (number (point 2 1) (control_volume 5) ≡ 20)
+    × (number (point 1 2) (control_volume 5) ≡ 0)
+unfolding refusal_definitions
+own_meter = (refl, refl, refl, refl, refl, refl, refl, refl)
+
+abbrev pub out : Record → Record
 out r = with_service r (with_serving r.service 0)
 
-abbrev denied : ℕ → Record → Record
+abbrev pub denied : ℕ → Record → Record
 denied n r = with_service r (with_denials r.service n)
 
 -- out of service or with two denials a billing reading is refused, a control reading and a neighbour's are not
@@ -142,6 +239,20 @@ reading_22 :
     × (number (with_readings (point 2 2) (with_second (point 2 2).readings (given_as 1))) (neighbour 2 5) ≡ 22)
 unfolding refusal_definitions
 reading_22 = (refl, refl, refl, refl, refl)
+
+-- a reading is the one that the call names: another one given is nothing to it
+own_reading :
+    (number (given (with_billing no_readings (given_as 0))) (billing_hours []) ≡ 22)
+    × (number (given (with_billing no_readings (given_as 0))) (control_hours (hours 672)) ≡ 0)
+    × (number (given (with_control no_readings (given_as 0))) (billing_hours (hours 672)) ≡ 0)
+    × (number (given (with_control no_readings (given_as 0))) (control_hours []) ≡ 22)
+    × (number (given (with_first no_readings (given_as 0))) (control_hours (hours 672)) ≡ 0)
+    × (number (with_readings (point 2 2) (with_control no_readings (given_as 1))) (billing_volume 5) ≡ 0)
+    × (number (with_readings (point 2 2) (with_first (with_billing no_readings (given_as 1)) (given_as 1))) (control_volume 5) ≡ 0)
+    × (number (with_readings (point 2 2) (with_second no_readings (given_as 1))) (neighbour 1 5) ≡ 0)
+    × (number (with_readings (point 2 2) (with_first no_readings (given_as 1))) (neighbour 1 672000001) ≡ 22)
+unfolding refusal_definitions
+own_reading = (refl, refl, refl, refl, refl, refl, refl, refl, refl)
 
 -- T hours, each at most 1,000,000; a volume at most T × 1,000,000
 reading_23_24 :
@@ -168,7 +279,22 @@ network :
 unfolding refusal_definitions
 network = (refl, refl, refl, refl, refl, refl, refl, refl, refl, refl)
 
--- SETTLEMENT: not T marks, and no number before. Those of whole months of marks are in the crate `whole_months`
+-- each test looks at its own field: service, denials or reason, and none at the run
+own_field :
+    (reported (point 1 2) (failure 1) ≡ 0)
+    × (reported (out (point 1 2)) (failure 1) ≡ 30)
+    × (reported (out (denied 1 (point 1 2))) (failure 1) ≡ 30)
+    × (reported (point 1 2) (failure 2) ≡ 0)
+    × (reported (point 1 2) (failure 3) ≡ 0)
+    × (reported (out (denied 1 (point 1 2))) admission ≡ 0)
+    × (reported (with_service (point 1 2) (served_so 2 1 0 0)) denial ≡ 0)
+    × (reported (with_service (point 1 2) (served_so 0 1 2 0)) denial ≡ 33)
+    × (reported (with_service (point 1 2) (served_so 1 1 0 0)) permission ≡ 34)
+    × (reported (with_service (point 1 2) (served_so 0 1 2 0)) permission ≡ 0)
+unfolding refusal_definitions
+own_field = (refl, refl, refl, refl, refl, refl, refl, refl, refl, refl)
+
+-- SETTLEMENT: not T marks, and no number before. More of whole months of marks is in the crate `whole_months`
 abbrev pub closed : List ℕ → ℕ → ℕ
 closed marks n = own_refusal (point 1 2) [] (closing marks (zeros n))
 
@@ -176,109 +302,26 @@ settlement : (closed [] 744 ≡ 40) × (closed (4 ∷ []) 743 ≡ 40) × (closed
 unfolding refusal_definitions
 settlement = (refl, refl, refl, refl)
 
--- FAULTS: at most 12 months back, and the same month
-repeats :
-    (fault_within_year 24277 24289 ≡ true) × (fault_within_year 24277 24290 ≡ false) × (fault_within_year 24277 24277 ≡ true)
-    × (fault_within_year 0 24277 ≡ false)
-repeats = (refl, refl, refl, refl)
+-- a closing of no month, which has no hours and so no marks, with a store of a word and a buffer
+abbrev of_none : ℕ → ℕ → ℕ
+of_none word n = own_refusal zero_record (word ∷ []) (closing [] (zeros n))
 
-abbrev faulted : ℕ → Service
-faulted n = served_so 5 1 1 n
-
-failures :
-    (after_failure (faulted 24278) (on 2023 2) 1 ≡ served_so 0 0 1 24278)
-    × (after_failure (faulted 24266) (on 2023 2) 2 ≡ served_so 0 0 1 24278)
-    × (after_failure (faulted 24265) (on 2023 2) 1 ≡ served_so 5 0 1 24278)
-    × (after_failure (faulted 0) (on 2023 2) 1 ≡ served_so 5 0 1 24278)
-    × (after_failure (faulted 24277) (on 2023 2) 3 ≡ served_so 5 0 1 24277)
-    × (after_failure (faulted 24277) (on 2023 2) 4 ≡ served_so 5 0 1 24277)
-unfolding month_number
-failures = (refl, refl, refl, refl, refl, refl)
-
--- DENIALS: the second discards the billing reading, the first does not; a permission leaves the run
-abbrev metered : Record
-metered = with_readings (point 2 2) (with_billing (point 2 2).readings (given_as 9))
-
-denials :
-    ((accept (state metered []) (report denial)).point ≡ with_service metered (with_denials fresh_service 1))
-    × ((accept (state (denied 1 metered) []) (report denial)).point ≡ with_service (point 2 2) (with_denials fresh_service 2))
-    × ((accept (state (served (point 2 2) (served_so 5 0 2 0)) []) (report permission)).point.service
-    ≡ served_so 5 0 0 0)
+-- 44 before 45, each at its limit from both sides; 45 is of the store, and not of the buffer
+last_numbers :
+    (of_none 3000001 743 ≡ 44)
+    × (of_none 3000001 745 ≡ 44)
+    × (of_none 3000000 743 ≡ 44)
+    × (of_none 3000001 744 ≡ 45)
+    × (of_none 3000000 744 ≡ 0)
+    × (own_refusal zero_record [] (closing [] (replicate 744 3000001)) ≡ 0)
 unfolding refusal_definitions
-denials = (refl, refl, refl)
+last_numbers = (refl, refl, refl, refl, refl, refl)
 
--- READINGS: hours go into their own row, 12 or 13, with 0 past their end and no volume; volumes touch no row
-abbrev empty : List ℕ
-empty = zeros 10416
-
-abbrev after : Record → MeterReading → ℕ → ℕ
-after r x k = at (accept (state r empty) (read x)).store k
-
-rows :
-    (after (point 1 1) (billing_hours (7 ∷ [])) 8928 ≡ 7) × (after (point 1 1) (billing_hours (7 ∷ [])) 8929 ≡ 0)
-    × (after (point 1 1) (billing_hours (7 ∷ [])) 9672 ≡ 0)
-    × (after (point 1 1) (control_hours (7 ∷ [])) 9672 ≡ 7) × (after (point 1 1) (control_hours (7 ∷ [])) 8928 ≡ 0)
-    × ((accept (state (point 1 1) []) (read (billing_hours (7 ∷ [])))).point ≡ with_readings (point 1 1) (with_billing (point 1 1).readings (given_as 0)))
-    × ((accept (state (point 1 1) []) (read (control_hours (7 ∷ [])))).point ≡ with_readings (point 1 1) (with_control (point 1 1).readings (given_as 0)))
-unfolding refusal_definitions padded put_row
-rows = (refl, refl, refl, refl, refl, refl, refl)
-
-volumes :
-    (accept (state (point 2 2) []) (read (billing_volume 9)) ≡ state metered [])
-    × (accept (state (point 2 2) []) (read (control_volume 9)) ≡ state (with_readings (point 2 2) (with_control (point 2 2).readings (given_as 9))) [])
-    × (accept (state (point 2 2) []) (read (neighbour 1 9)) ≡ state (with_readings (point 2 2) (with_first (point 2 2).readings (given_as 9))) [])
-    × (accept (state (point 2 2) []) (read (neighbour 2 9)) ≡ state (with_readings (point 2 2) (with_second (point 2 2).readings (given_as 9))) [])
+-- over the marks of February 2023: 41 on the last day before 42 on the first, 42 on the last day before 43 on the first, and 43 on the last day
+-- before 44
+mark_numbers :
+    (closed (set (replicate 17 1 ++ zeros 655) 671 4) 0 ≡ 41)
+    × (closed (1 ∷ (zeros 654 ++ replicate 17 1)) 0 ≡ 42)
+    × (closed (set (zeros 672) 671 1) 0 ≡ 43)
 unfolding refusal_definitions
-volumes = (refl, refl, refl, refl)
-
--- a failure discards the reading, its volume and row 12; an admission puts back in service and leaves all else
-discards :
-    ((accept (state metered []) (report (failure 3))).point ≡ out (point 2 2))
-    × (at (accept (state metered (set empty 8928 7)) (report (failure 3))).store 8928 ≡ 0)
-    × (at (accept (state metered (set empty 9672 7)) (report (failure 3))).store 9672 ≡ 7)
-    × (accept (state (out metered) []) (report admission) ≡ state metered [])
-unfolding refusal_definitions padded put_row
-discards = (refl, refl, refl, refl)
-
--- THE PAST: no row of January 2014 holds 2013; a row of two years ago is no past but as the latest; last year's row goes before the latest,
--- with last year's hours
-abbrev filled : Date → List ℕ → ℕ → State
-filled d years latest = state (with_past (with_date (point 1 2) d) (record { years = years; latest = latest })) (replicate 744 1 ++ replicate 744 2)
-
-pasts :
-    (past_in (filled (on 2014 1) (zeros 12) 0) ≡ None) × (past_in (filled (on 2025 2) (set (zeros 12) 1 2023) 0) ≡ None)
-    × (past_in (filled (on 2025 2) (set (zeros 12) 1 2023) 24278) ≡ Some (replicate 672 2))
-    × (past_in (filled (on 2025 2) (set (set (zeros 12) 1 2024) 0 2025) 24301) ≡ Some (replicate 696 2))
-    × (past_in (filled (on 2025 2) (set (zeros 12) 0 2025) 24301) ≡ Some (replicate 744 1))
-unfolding refusal_definitions
-pasts = (refl, refl, refl, refl, refl)
-
--- A CLOSING of December 2024 with a volume of 7, all in its first hour: on ground 1 the month becomes the past and the run is 0; on ground
--- 7 neither, and the run grows. The total grows, the readings and row 12 clear, January 2025 opens
-abbrev december : ℕ → List ℕ → ℕ → Record
-december run years latest =
-    with_past (with_service (with_date (point 1 2) (on 2024 12)) (served_so run 1 1 0))
-    (record { years = years; latest = latest })
-
-abbrev ended : ℕ → State
-ended g =
-    closed_with (record { ground = g; hours = 7 ∷ []; exact = λ h. record { top = 7; bottom = 1 }; volume = 7 })
-    (state (with_readings (december 5 (zeros 12) 0) (with_billing no_readings (given_as 0))) (set empty 8928 9))
-
-abbrev begun : ℕ → List ℕ → ℕ → Record
-begun run years latest =
-    record {
-      opened = 1;
-      contract = contract 1 2;
-      date = on 2025 1;
-      service = served_so run 1 1 0;
-      past = record { years = years; latest = latest };
-      readings = no_readings;
-      total = record { 0 = 7 };
-    }
-
-closings :
-    ((ended 1).point ≡ begun 0 (set (zeros 12) 11 2024) 24300) × ((ended 7).point ≡ begun 6 (zeros 12) 0)
-    × (at (ended 1).store 8184 ≡ 7) × (at (ended 7).store 8184 ≡ 0) × (at (ended 1).store 8928 ≡ 0) × (at (ended 7).store 8928 ≡ 0)
-unfolding refusal_definitions padded put_row closed_with becomes_past next_month
-closings = (refl, refl, refl, refl, refl, refl)
+mark_numbers = (refl, refl, refl)
