@@ -14,7 +14,8 @@ use Rattle.rules.specs.Calls.{Opening, MeterReading, billing_hours, control_hour
 use Rattle.rules.specs.Calls.{Report, failure, admission, denial, permission, Call, read, report, closing}
 use Rattle.rules.specs.Rules.{missing, hourly, whole, counted_of, neighbour_of, as_read, by_weights, by_peaks}
 use Rattle.rules.specs.Rules.{evenly, by_contract, on_past, on_control, on_billing, rules, becomes_past}
-use Rattle.history.specs.Book.{Entry, Book, billing, control, neighbouring, failed, admitted, denied, permitted, closed, of_kind, is_from}
+use Rattle.history.specs.Book.{Entry, Book, billing, control, neighbouring, failed, admitted, denied, permitted, closed, of_kind, source_or_reason}
+use Rattle.history.specs.Book.{measured_by, reading_of, is_from, as_stated, empty_on}
 use Rattle.history.specs.Book.{is_faulty, month_of, denials_of, discards, billing_of, this_months, source_of, fault_since, is_repeat, became_past}
 use Rattle.history.specs.Book.{run_of, hours_at, latest_hours, or_else_past, past_of, volumes, inputs_of, nothing, work_out, feed}
 use Rattle.history.proofs.View.{look_backs}
@@ -35,14 +36,18 @@ o =
     }
 
 -- entries: a reading, a report, and a month closed on ground g with the hours hs
-abbrev called : MeterReading → Entry
+abbrev pub called : MeterReading → Entry
 called x = record { call = read x; out = nothing }
 
-abbrev reported : Report → Entry
+abbrev pub reported : Report → Entry
 reported x = record { call = report x; out = nothing }
 
 abbrev shut : ℕ → List ℕ → Entry
 shut g hs = record { call = closing [] []; out = record { ground = g; hours = hs; exact = λ h. record { top = 0; bottom = 1 }; volume = sum hs } }
+
+-- an entry that no book has: a report with hours and a volume on ground 1
+abbrev beside : ℕ → Entry
+beside x = record { call = report denial; out = (shut 1 (x ∷ [])).out }
 
 -- n more months estimated on ground 8
 abbrev estimated : ℕ → Book → Book
@@ -61,22 +66,61 @@ kinds :
 unfolding book_definitions
 kinds = (refl, refl, refl, refl, refl, refl, refl, refl, refl, refl, refl, refl, refl)
 
+-- each kind is told from all others
+kinds_apart :
+    (of_kind billing (called (control_hours [])) ≡ false) × (of_kind billing (called (neighbour 1 0)) ≡ false)
+    × (of_kind billing (reported denial) ≡ false) × (of_kind billing (shut 1 []) ≡ false)
+    × (of_kind control (called (control_volume 0)) ≡ true) × (of_kind control (called (billing_hours [])) ≡ false)
+    × (of_kind control (called (billing_volume 0)) ≡ false) × (of_kind control (reported denial) ≡ false) × (of_kind control (shut 1 []) ≡ false)
+    × (of_kind neighbouring (called (billing_volume 0)) ≡ false) × (of_kind neighbouring (called (control_volume 0)) ≡ false)
+    × (of_kind neighbouring (shut 1 []) ≡ false)
+    × (of_kind failed (reported admission) ≡ false) × (of_kind failed (called (neighbour 1 0)) ≡ false) × (of_kind failed (shut 1 []) ≡ false)
+    × (of_kind admitted (reported permission) ≡ false) × (of_kind admitted (reported (failure 1)) ≡ false)
+    × (of_kind admitted (called (billing_volume 0)) ≡ false)
+    × (of_kind denied (reported denial) ≡ true) × (of_kind denied (reported (failure 2)) ≡ false) × (of_kind denied (shut 1 []) ≡ false)
+    × (of_kind permitted (reported admission) ≡ false) × (of_kind permitted (reported denial) ≡ false) × (of_kind permitted (shut 1 []) ≡ false)
+    × (of_kind closed (called (billing_hours [])) ≡ false)
+unfolding book_definitions
+kinds_apart =
+    (refl, refl, refl, refl, refl, refl, refl, refl, refl, refl, refl, refl, refl, refl, refl, refl, refl, refl, refl, refl, refl, refl, refl, refl, refl)
+
+-- a neighbour's source and a failure's reason, and 0 for any other call
+sources :
+    (source_or_reason (read (neighbour 2 7)) ≡ 2) × (source_or_reason (report (failure 4)) ≡ 4) × (source_or_reason (report denial) ≡ 0)
+    × (source_or_reason (read (billing_volume 7)) ≡ 0) × (source_or_reason (closing (1 ∷ []) (2 ∷ [])) ≡ 0)
+unfolding book_definitions
+sources = (refl, refl, refl, refl, refl)
+
+-- hours of an interval meter, the volume of an integral or neighbour one, and nothing that a report or a closing says
+said_by :
+    (measured_by (billing_hours (4 ∷ [])) ≡ hourly (4 ∷ [])) × (measured_by (control_hours (5 ∷ [])) ≡ hourly (5 ∷ []))
+    × (measured_by (billing_volume 6) ≡ whole 6) × (measured_by (control_volume 7) ≡ whole 7) × (measured_by (neighbour 2 8) ≡ whole 8)
+    × (reading_of (read (control_volume 7)) ≡ whole 7) × (reading_of (report (failure 1)) ≡ missing)
+    × (reading_of (closing (1 ∷ []) (2 ∷ [])) ≡ missing)
+    × (as_stated missing ≡ None) × (as_stated (hourly (4 ∷ [])) ≡ None) × (as_stated (whole 0) ≡ Some 0) × (as_stated (whole 8) ≡ Some 8)
+unfolding book_definitions
+said_by = (refl, refl, refl, refl, refl, refl, refl, refl, refl, refl, refl, refl)
+
 -- a neighbour reading of one source is not of the other; reasons 1 and 2 are faults, and a neighbour's source is none
 arguments :
     (is_from 1 (called (neighbour 1 7)) ≡ true) × (is_from 2 (called (neighbour 1 7)) ≡ false) × (is_from 1 (reported (failure 1)) ≡ false)
     × (is_faulty (reported (failure 1)) ≡ true) × (is_faulty (reported (failure 2)) ≡ true) × (is_faulty (reported (failure 3)) ≡ false)
     × (is_faulty (reported (failure 4)) ≡ false) × (is_faulty (called (neighbour 1 7)) ≡ false)
+    × (is_faulty (reported (failure 0)) ≡ false)
+    × (is_from 1 (called (neighbour 2 7)) ≡ false) × (is_from 2 (called (neighbour 2 7)) ≡ true) × (is_from 0 (reported denial) ≡ false)
 unfolding book_definitions
-arguments = (refl, refl, refl, refl, refl, refl, refl, refl)
+arguments = (refl, refl, refl, refl, refl, refl, refl, refl, refl, refl, refl, refl)
 
--- MONTHS: the opening's, plus one for each closing and for nothing else
+-- MONTHS: the opening's, plus one for each closing and for nothing else, the calendar's end or not
 months :
     (month_of o [] ≡ record { year = 2023; month = 1 })
     × (month_of o (reported denial ∷ reported (failure 1) ∷ []) ≡ record { year = 2023; month = 1 })
     × (month_of o (reported denial ∷ shut 1 [] ∷ reported (failure 1) ∷ shut 8 [] ∷ []) ≡ record { year = 2023; month = 3 })
     × (month_of o (estimated 11 []) ≡ record { year = 2023; month = 12 }) × (month_of o (estimated 12 []) ≡ record { year = 2024; month = 1 })
+    × (month_of (record o { date = record { year = 2999; month = 12 } }) (estimated 1 []) ≡ record { year = 3000; month = 1 })
+    × (month_of (record o { date = record { year = 3000; month = 1 } }) (estimated 1 []) ≡ record { year = 3000; month = 2 })
 unfolding book_definitions
-months = (refl, refl, refl, refl, refl)
+months = (refl, refl, refl, refl, refl, refl, refl)
 
 -- DENIALS: since the last permission, over months; an admission ends none
 denials :
@@ -110,12 +154,14 @@ discarded = (refl, refl, refl, refl)
 second_denial :
     (discards (reported denial) [] ≡ false) × (discards (reported denial) (reported denial ∷ []) ≡ true)
     × (discards (reported permission) (reported denial ∷ []) ≡ false)
+    × (discards (reported denial) (reported denial ∷ reported denial ∷ []) ≡ false)
+    × (discards (reported (failure 4)) [] ≡ true) × (discards (reported admission) [] ≡ false)
     × (billing_of (reported denial ∷ called (billing_volume 5) ∷ reported denial ∷ []) ≡ missing)
     × (billing_of (reported denial ∷ called (billing_volume 5) ∷ shut 8 [] ∷ reported denial ∷ []) ≡ missing)
     × (billing_of (reported permission ∷ reported denial ∷ reported denial ∷ called (billing_volume 5) ∷ []) ≡ missing)
     × (billing_of (reported denial ∷ reported permission ∷ reported denial ∷ called (billing_volume 5) ∷ []) ≡ whole 5)
 unfolding book_definitions
-second_denial = (refl, refl, refl, refl, refl, refl, refl)
+second_denial = (refl, refl, refl, refl, refl, refl, refl, refl, refl, refl)
 
 -- CONTROL AND NEIGHBOUR READINGS: this month's, which nothing discards
 others :
@@ -125,8 +171,11 @@ others :
     × (this_months (of_kind control) (shut 4 [] ∷ called (control_volume 6) ∷ []) ≡ missing)
     × (source_of 1 (reported (failure 1) ∷ called (neighbour 1 7) ∷ []) ≡ Some 7) × (source_of 2 (called (neighbour 1 7) ∷ []) ≡ None)
     × (source_of 1 (shut 8 [] ∷ called (neighbour 1 7) ∷ []) ≡ None)
+    × (this_months (of_kind control) [] ≡ missing)
+    × (this_months (of_kind control) (reported denial ∷ called (control_volume 6) ∷ shut 4 [] ∷ called (control_volume 9) ∷ []) ≡ whole 6)
+    × (source_of 2 (called (neighbour 1 7) ∷ called (neighbour 2 8) ∷ shut 8 [] ∷ called (neighbour 2 9) ∷ []) ≡ Some 8)
 unfolding book_definitions
-others = (refl, refl, refl, refl, refl, refl, refl)
+others = (refl, refl, refl, refl, refl, refl, refl, refl, refl, refl)
 
 -- N is the first neighbour reading if given, whichever came first, else the second, else 0
 neighbours :
@@ -148,6 +197,15 @@ repeats :
 unfolding book_definitions
 repeats = (refl, refl, refl, refl, refl, refl)
 
+-- from the fault's own month, January 2023 with the number 24277, to 12 months after it, whatever the book's month is
+since :
+    (fault_since o 24289 (reported (failure 1) ∷ []) ≡ true) × (fault_since o 24290 (reported (failure 1) ∷ []) ≡ false)
+    × (fault_since o 24277 (reported (failure 1) ∷ []) ≡ true) × (fault_since o 24277 [] ≡ false)
+    × (fault_since o 24289 (estimated 2 (reported (failure 2) ∷ [])) ≡ true) × (fault_since o 24290 (estimated 2 (reported (failure 2) ∷ [])) ≡ false)
+    × (fault_since o 24278 (reported (failure 3) ∷ called (neighbour 1 7) ∷ shut 8 [] ∷ []) ≡ false)
+unfolding book_definitions
+since = (refl, refl, refl, refl, refl, refl, refl)
+
 -- any earlier fault serves: one behind failures that are none, one that was a repeat, and one that was not
 any_fault :
     (is_repeat o (reported (failure 1)) (reported admission ∷ reported (failure 3) ∷ estimated 6 (reported (failure 2) ∷ [])) ≡ true)
@@ -160,9 +218,9 @@ any_fault = (refl, refl, refl, refl)
 -- THE RUN: 0 after grounds 1 and 2 and after a repeat, one more after every other closing, and as it was after any other call
 metered :
     (became_past (shut 1 []) ≡ true) × (became_past (shut 2 []) ≡ true) × (became_past (shut 3 []) ≡ false) × (became_past (shut 9 []) ≡ false)
-    × (became_past (called (billing_volume 5)) ≡ false)
+    × (became_past (called (billing_volume 5)) ≡ false) × (became_past (shut 0 []) ≡ false) × (became_past (beside 5) ≡ false)
 unfolding book_definitions
-metered = (refl, refl, refl, refl, refl)
+metered = (refl, refl, refl, refl, refl, refl, refl)
 
 runs :
     (run_of o [] ≡ 0) × (run_of o (estimated 5 []) ≡ 5) × (run_of o (shut 1 [] ∷ estimated 5 []) ≡ 0)
@@ -172,8 +230,9 @@ runs :
     × (run_of o (reported (failure 1) ∷ estimated 5 []) ≡ 5) × (run_of o (reported (failure 1) ∷ estimated 5 (reported (failure 2) ∷ [])) ≡ 0)
     × (run_of o (estimated 1 (reported (failure 1) ∷ estimated 12 (reported (failure 2) ∷ []))) ≡ 1)
     × (run_of o (reported (failure 1) ∷ estimated 13 (reported (failure 2) ∷ [])) ≡ 13)
+    × (run_of o (beside 7 ∷ estimated 5 []) ≡ 5)
 unfolding book_definitions
-runs = (refl, refl, refl, refl, refl, refl, refl, refl, refl, refl, refl)
+runs = (refl, refl, refl, refl, refl, refl, refl, refl, refl, refl, refl, refl)
 
 -- R is 3 with denials 2 and a shorter run, and the run plus 1 else
 counts :
@@ -198,22 +257,67 @@ same_month :
     (hours_at o 24277 (estimated 3 (shut 1 (5 ∷ []) ∷ [])) ≡ Some (5 ∷ []))
     × (hours_at o 24278 (estimated 3 (shut 1 (5 ∷ []) ∷ [])) ≡ None)
     × (latest_hours (estimated 3 (shut 2 (6 ∷ []) ∷ shut 1 (5 ∷ []) ∷ [])) ≡ Some (6 ∷ [])) × (latest_hours (estimated 3 []) ≡ None)
+    × (latest_hours [] ≡ None) × (latest_hours (beside 7 ∷ shut 3 (6 ∷ []) ∷ shut 1 (5 ∷ []) ∷ []) ≡ Some (5 ∷ []))
 unfolding book_definitions
-same_month = (refl, refl, refl, refl)
+same_month = (refl, refl, refl, refl, refl, refl)
 
--- THE VOLUMES of all closings
-totals : (volumes [] ≡ 0) × (volumes (reported denial ∷ shut 1 (5 ∷ 6 ∷ []) ∷ called (billing_volume 9) ∷ shut 8 (2 ∷ []) ∷ []) ≡ 13)
+-- each month has its own hours, and the months before and after have none
+own_hours :
+    (hours_at o 24276 (shut 2 (6 ∷ []) ∷ shut 1 (5 ∷ []) ∷ []) ≡ None)
+    × (hours_at o 24277 (shut 2 (6 ∷ []) ∷ shut 1 (5 ∷ []) ∷ []) ≡ Some (5 ∷ []))
+    × (hours_at o 24278 (shut 2 (6 ∷ []) ∷ shut 1 (5 ∷ []) ∷ []) ≡ Some (6 ∷ []))
+    × (hours_at o 24279 (shut 2 (6 ∷ []) ∷ shut 1 (5 ∷ []) ∷ []) ≡ None)
+    × (hours_at o 24277 (beside 7 ∷ []) ≡ None) × (hours_at o 24277 (shut 3 (5 ∷ []) ∷ []) ≡ None) × (hours_at o 24277 [] ≡ None)
 unfolding book_definitions
-totals = (refl, refl)
+own_hours = (refl, refl, refl, refl, refl, refl, refl)
+
+-- the first past goes before the second, even where it has no hours
+first_past :
+    (or_else_past (Some (5 ∷ [])) (Some (6 ∷ [])) ≡ Some (5 ∷ [])) × (or_else_past (Some []) (Some (6 ∷ [])) ≡ Some [])
+    × (or_else_past None (Some (6 ∷ [])) ≡ Some (6 ∷ []))
+    × (or_else_past (Some (5 ∷ [])) None ≡ Some (5 ∷ [])) × (or_else_past None None ≡ None)
+unfolding book_definitions
+first_past = (refl, refl, refl, refl, refl)
+
+-- THE VOLUMES of all closings, and of nothing else; a month's volume, and not the sum of its hours
+totals :
+    (volumes [] ≡ 0) × (volumes (reported denial ∷ shut 1 (5 ∷ 6 ∷ []) ∷ called (billing_volume 9) ∷ shut 8 (2 ∷ []) ∷ []) ≡ 13)
+    × (volumes (beside 7 ∷ shut 8 (2 ∷ []) ∷ []) ≡ 2)
+    × (volumes (record { call = closing [] []; out = record nothing { volume = 4 } } ∷ []) ≡ 4)
+unfolding book_definitions
+totals = (refl, refl, refl, refl)
+
+-- WHAT COUNTS AT A CLOSING, each in its place: a book with a run of 3, 1 denial, readings of each meter and a past; and an empty one
+abbrev busy : Book
+busy =
+    called (control_volume 6) ∷ called (neighbour 2 8) ∷ called (neighbour 1 7) ∷ called (billing_volume 5) ∷ reported denial
+    ∷ estimated 3 (shut 1 (9 ∷ []) ∷ [])
+
+all_inputs :
+    (inputs_of o busy (1 ∷ 2 ∷ [])
+    ≡ record { contract = o.asked; marks = 1 ∷ 2 ∷ []; counted = 4; billing = whole 5; control = whole 6; neighbour = 7; past = Some (9 ∷ []) })
+    × (inputs_of o [] (3 ∷ [])
+    ≡ record { contract = o.asked; marks = 3 ∷ []; counted = 1; billing = missing; control = missing; neighbour = 0; past = None })
+unfolding book_definitions kept power_on
+all_inputs = (refl, refl)
 
 -- THE BOOK, FED: a refused call adds nothing, and a call that closes no month works nothing out
 fed : (feed o (reported denial ∷ []) (report denial) false ≡ reported denial ∷ []) × (feed o [] (report denial) true ≡ reported denial ∷ [])
     × (feed o [] (read (billing_volume 5)) true ≡ called (billing_volume 5) ∷ [])
+    × (feed o (reported (failure 1) ∷ []) (report denial) true ≡ reported denial ∷ reported (failure 1) ∷ [])
 unfolding book_definitions
-fed = (refl, refl, refl)
+fed = (refl, refl, refl, refl)
+
+-- ground 0 with no hours and no volume, where nothing is worked out
+nothing_out :
+    (nothing.ground ≡ 0) × (nothing.hours ≡ []) × (nothing.volume ≡ 0) × (nothing.exact ≡ (λ h. record { top = 0; bottom = 1 }))
+    × ((empty_on 4).ground ≡ 4) × ((empty_on 4).hours ≡ []) × ((empty_on 4).volume ≡ 0)
+    × (work_out o [] (report denial) ≡ nothing) × (work_out o [] (read (billing_volume 5)) ≡ nothing)
+unfolding book_definitions
+nothing_out = (refl, refl, refl, refl, refl, refl, refl, refl, refl)
 
 -- what unfolds to work a closing out
-unfoldable closing_definitions : Unit {0}
+unfoldable pub closing_definitions : Unit {0}
 unfolding book_definitions rules on_billing on_control on_past by_contract evenly by_peaks by_weights as_read stretched shared_power shares_over
     spread taken portion half_up
     kept power_on power_of open_hours month_hours month_days leap_year is_month
@@ -235,17 +339,29 @@ grounds :
 unfolding closing_definitions
 grounds = (refl, refl, refl, refl, refl, refl, refl, refl)
 
--- the contract is the opening's, with P on its basis: 10 kW by 1, 1, 1, place 2, is 3
-shared : (inputs_of
-    (record {
-      asked = record { billing = 1; control = 0; basis = 2; power = record { 0 = 10 }; cable = no_cable };
-      date = o.date;
-      currents = 1 ∷ 1
-          ∷ 1 ∷ [];
-      place = 2;
-    }) [] []).contract.power.0 ≡ 3
+-- a closing is worked out from the book that it is fed to: an hour of 2 kWh from the past, and 1 kWh without it
+from_its_book :
+    (volumes (feed o (shut 1 (2 ∷ []) ∷ []) (closing (0 ∷ []) []) true) ≡ 4)
+    × (volumes (feed o (shut 8 (2 ∷ []) ∷ []) (closing (0 ∷ []) []) true) ≡ 3)
+    × (volumes (feed o (shut 1 (2 ∷ []) ∷ []) (closing (0 ∷ []) []) false) ≡ 2)
 unfolding closing_definitions
-shared = refl
+from_its_book = (refl, refl, refl)
+
+-- the contract is the opening's, with P on its basis: of 10 kW by 1, 2, 5 place 0 has 1, place 1 has 3 and place 2 has 6
+abbrev at_place : ℕ → Opening
+at_place k =
+    record {
+      asked = record { billing = 1; control = 2; basis = 2; power = record { 0 = 10 }; cable = no_cable };
+      date = o.date;
+      currents = 1 ∷ 2 ∷ 5 ∷ [];
+      place = k;
+    }
+
+shared :
+    ((inputs_of (at_place 0) [] []).contract.power.0 ≡ 1) × ((inputs_of (at_place 1) [] []).contract.power.0 ≡ 3)
+    × ((inputs_of (at_place 2) [] []).contract ≡ record { billing = 1; control = 2; basis = 2; power = record { 0 = 6 }; cable = no_cable })
+unfolding closing_definitions
+shared = (refl, refl, refl)
 
 -- m) 1 kW, no reading, January to March 2023: 2,160; a closing that is refused between them adds nothing
 abbrev january : Book

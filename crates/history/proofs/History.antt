@@ -54,7 +54,7 @@ opens_state : (o : Opening) (before after : List ℕ) (a : Answer) → Opens o b
 unfolding opens open_answer
 opens_state o before after a does e = eq-eqb (open_refusal (length before) o) 0 (sym (ap (λ (x : Answer). x.refusal) does.answered) ∙ e)
 
-run_opened : (o : Opening) (s : State) (ts : List Turn) → Run o s ts → s ≡ opened o
+pub run_opened : (o : Opening) (s : State) (ts : List Turn) → Run o s ts → s ≡ opened o
 unfolding open_answer open_leaves
 run_opened o s ts run =
     let t = opens_state o run.before s.store run.answer run.opens run.accepted in

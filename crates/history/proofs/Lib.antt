@@ -1,4 +1,7 @@
+pub mod Claims
 pub mod Closings
+pub mod Consequences
+pub mod Equal
 pub mod Examples
 pub mod History
 pub mod Inputs
