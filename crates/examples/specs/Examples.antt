@@ -1,5 +1,5 @@
 -- The common table of examples (document 01, 'Examples to be shown in a common table'), in its order.
-use Rattle.std.specs.Prelude.{ℕ, ◌≡◌, true, false, List, [], ◌∷◌, length}
+use Rattle.std.specs.Prelude.{ℕ, ◌≡◌, true, false, Some, List, [], ◌∷◌, ◌++◌, length}
 use Rattle.numbers.specs.Lists.{at, zeros}
 use Rattle.calendar.specs.declared.Date.{Date}
 use Rattle.calendar.specs.Calendar.{month_days, open_hours, month_number}
@@ -10,7 +10,7 @@ use Rattle.marks.specs.Marks.{capacity_of}
 use Rattle.marks.specs.Peak.{peak_rule}
 use Rattle.record.specs.declared.Service.{Service}
 use Rattle.rules.specs.Calls.{Opening, Call, closing}
-use Rattle.rules.specs.Rules.{ground_six}
+use Rattle.rules.specs.Rules.{missing, whole, Inputs, ground_six, rules}
 use Rattle.model.specs.Model.{State, after_failure, leaves}
 use Rattle.model.specs.Opening.{opened}
 
@@ -27,6 +27,24 @@ six = 0 ∷ 1 ∷ 0 ∷ 3 ∷ 0 ∷ 2 ∷ []
 
 abbrev pub month : ℕ → ℕ → Date
 month y m = record { year = y; month = m }
+
+-- a day with peaks at hours 8 and 9, of which hour 8 is the capacity hour: n 2, d 1
+abbrev pub working_day : List ℕ
+working_day = zeros 8 ++ (3 ∷ 1 ∷ zeros 14)
+
+-- that day in the third missed month, with P 3 and a control reading of 12, so that A is 6, and with a past of 1 kWh in the capacity hour
+-- and w in the other peak hour: C' is 12 × 1 / (1 + w)
+abbrev pub by_past : ℕ → Inputs
+by_past w =
+    record {
+      contract = record { billing = 2; control = 2; basis = 1; power = record { 0 = 3 }; cable = cable 0 0 0 0 };
+      marks = working_day;
+      counted = 3;
+      billing = missing;
+      control = whole 12;
+      neighbour = 0;
+      past = Some (zeros 8 ++ (1 ∷ w ∷ zeros 14));
+    }
 
 -- five missed months in a row, and a fault in a month before
 abbrev pub faulted : Date → Service
@@ -72,8 +90,8 @@ pub record Examples : Type 0 where
   pub i : peak_rule 4 0 six ≡ 1 ∷ 0 ∷ 1 ∷ 0 ∷ 1 ∷ 1 ∷ []
   -- j) C 7, d 2: 4
   pub j : capacity_of 7 2 ≡ 4
-  -- k) A 6, n 2, d 1: C' 3 keeps the peak rule, C' 4 doesn't
-  pub k : (ground_six 6 1 2 3 ≡ false) × (ground_six 6 1 2 4 ≡ true)
+  -- k) A 6, n 2, d 1: C' 3 keeps the peak rule, C' 4 doesn't; so of the test of ground 6, and of the ground of a day with these
+  pub k : (ground_six 6 1 2 3 ≡ false) × (ground_six 6 1 2 4 ≡ true) × ((rules (by_past 3)).ground ≡ 5) × ((rules (by_past 2)).ground ≡ 6)
   -- l) faults in January 2023 and January 2024 repeat; with February 2024 they don't
   pub l :
       ((after_failure (faulted (month 2023 1)) (month 2024 1) 1).run ≡ 0)
