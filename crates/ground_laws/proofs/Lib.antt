@@ -1,0 +1,14 @@
+mod Counts
+mod Which
+mod Cases
+mod Sharing
+mod Peaks
+mod Exact
+mod Days
+mod Powers
+mod Grounds
+mod Figured
+mod Unique
+mod Complete
+mod RightExamples
+mod GroundExamples
