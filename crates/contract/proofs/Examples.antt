@@ -9,7 +9,7 @@ use Rattle.power.specs.Power.{formula, shared_power, power_on}
 use Rattle.power.proofs.Examples as P
 use borrow.Author.Rules.{rules}
 use Rattle.contract.specs.declared.Contract.{Contract}
-use Rattle.contract.specs.Contract.{is_billing_kind, is_control_kind, meters_fit, is_agreed, no_power, no_cable, keeping, kept, power_of}
+use Rattle.contract.specs.Contract.{is_billing_kind, is_control_kind, meters_fit, integral_on_big_load, is_agreed, no_power, no_cable, keeping, kept, power_of}
 
 -- THE METERS: a billing meter is 1 or 2, a control meter 0 to 2
 billing_kinds : (is_billing_kind 0 ≡ false) × (is_billing_kind 1 ≡ true) × (is_billing_kind 2 ≡ true) × (is_billing_kind 3 ≡ false)
@@ -17,6 +17,16 @@ billing_kinds = (refl, refl, refl, refl)
 
 control_kinds : (is_control_kind 0 ≡ true) × (is_control_kind 1 ≡ true) × (is_control_kind 2 ≡ true) × (is_control_kind 3 ≡ false)
 control_kinds = (refl, refl, refl, refl)
+
+-- an integral billing meter is not accepted from 670 kW on; an interval one is, with any P
+big_loads :
+    (integral_on_big_load 2 669 ≡ false)
+    × (integral_on_big_load 2 670 ≡ true)
+    × (integral_on_big_load 2 1000000 ≡ true)
+    × (integral_on_big_load 2 0 ≡ false)
+    × (integral_on_big_load 1 670 ≡ false)
+    × (integral_on_big_load 1 1000000 ≡ false)
+big_loads = (refl, refl, refl, refl, refl, refl)
 
 agreed_bases : (is_agreed 0 ≡ false) × (is_agreed 1 ≡ true) × (is_agreed 2 ≡ true) × (is_agreed 3 ≡ false)
 agreed_bases = (refl, refl, refl, refl)

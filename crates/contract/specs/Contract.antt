@@ -17,6 +17,10 @@ is_control_kind k = leb k 2
 abbrev pub meters_fit : Contract → Bool
 meters_fit c = is_billing_kind c.billing && is_control_kind c.control
 
+-- an integral billing meter on a big load, a P of 670 kW or more (document 02, E3)
+abbrev pub integral_on_big_load : ℕ → ℕ → Bool
+integral_on_big_load billing p = eqb billing 2 && leb 670 p
+
 -- bases 1 and 2, an agreed power
 abbrev pub is_agreed : ℕ → Bool
 is_agreed basis = eqb basis 1 || eqb basis 2

@@ -2,7 +2,7 @@
 #![tactic(auto)]
 
 ghost use Rattle.std.specs.Prelude.{◌≡◌};
-ghost use Rattle.contract.specs.Contract.{meters_fit, is_agreed, keeping};
+ghost use Rattle.contract.specs.Contract.{meters_fit, integral_on_big_load, is_agreed, keeping};
 
 use power::Cable;
 use units::Kw;
@@ -25,6 +25,13 @@ pub fn meters_fit(c: Contract) -> bool
     ensures { result ≡ meters_fit c }
 {
     matches!(c.billing, 1 | 2) & (c.control <= 2)
+}
+
+// Whether a billing meter is an integral one on a point with a power P of 670 kW or more.
+pub fn integral_on_big_load(billing: u32, p: Kw) -> bool
+    ensures { result ≡ integral_on_big_load billing p.0 }
+{
+    (billing == 2) & (p.0 >= 670)
 }
 
 // Whether a basis has an agreed power: 1 and 2. It is asked of any number, before the basis is judged.

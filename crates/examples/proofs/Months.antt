@@ -1,11 +1,10 @@
 -- Examples m) and n). The three closings of m) are accepted, because the point goes on and the marks are in order; the rest is computation. Assumes nothing.
-use Prim.Native.Nat.{ℕ, ◌/◌}
+use Prim.Native.Nat.{ℕ}
 use mathlib.Core.Path.{◌≡◌, refl, ◌∙◌}
-use mathlib.Core.Bool.{true, not}
+use mathlib.Core.Bool.{true}
 use mathlib.Core.List.{List}
 use native.Mathlib.Omega.{arith}
-use borrow.Author.Tests.{eq-eqb}
-use lib.Dec.{eqb, lit<}
+use lib.Dec.{lit<}
 use lib.ListN.{length}
 use Rattle.numbers.specs.Lists.{at, zeros, none_above}
 use Rattle.numbers.proofs.Laws.{at_tab}
@@ -16,28 +15,14 @@ use Rattle.power.specs.Power.{agreed_fits, power_on}
 use Rattle.marks.specs.Marks.{high, crowded, unmatched}
 use Rattle.contract.specs.Contract.{kept, power_of}
 use Rattle.store.specs.Store.{empty_store}
-use Rattle.rules.specs.Calls.{closing}
 use Rattle.rules.specs.Rules.{evenly, by_weights, by_contract, on_past, on_control, on_billing, rules, becomes_past}
-use Rattle.model.specs.Refusals.{refuse, open_refusal, own_refusal}
-use Rattle.model.specs.Model.{State, measured_in, past_month, past_in, inputs, closed_with, accept, refusal, accepted, leaves}
+use Rattle.model.specs.Refusals.{refuse, open_refusal}
+use Rattle.model.specs.Model.{State, measured_in, past_month, past_in, inputs, closed_with, accept, accepted, leaves}
 use Rattle.model.specs.Opening.{opens, opened}
 use Rattle.model.specs.Sound.{Sound}
 use Rattle.model.proofs.GoesOn.{opening_sound, call_sound}
 use Rattle.examples.specs.Examples.{february, one_kilowatt, plainly, after_march}
-
--- a closing of a point that goes on is accepted, where 3 and 40 to 44 do not apply
-passes : (s : State) (marks buffer : List ℕ) → Sound s
-    → refuse (eqb s.point.date.year 3000) 3
-    (refuse (not (eqb (length marks) (open_hours s.point.date))) 40
-    (refuse (high marks) 41
-    (refuse (crowded marks (length marks / 24)) 42
-    (refuse (unmatched marks (length marks / 24)) 43 (refuse (not (eqb (length buffer) 744)) 44 0)))))
-    ≡ 0
-    → accepted s (closing marks buffer) ≡ true
-unfolding accepted refusal own_refusal refuse
-passes s marks buffer sound e =
-    eq-eqb (refusal s (closing marks buffer)) 0
-    (rw (eq-eqb (length s.store) 10416 sound.fits.words, sound.fits.record_fits, sound.fits.store_fits_lem) e)
+use Rattle.examples.proofs.Accepted.{passes}
 
 record Closed (s : State) (t : ℕ) : Type 0 where
   left : leaves s (plainly t) ≡ accept s (plainly t)

@@ -6,7 +6,7 @@ use mathlib.Core.List.{List, [], ◌∷◌}
 use borrow.Author.Tests.{eqb-true}
 use lib.ListN.{length}
 use Rattle.calendar.specs.Calendar.{is_month}
-use Rattle.power.specs.Power.{agreed_fits}
+use Rattle.power.specs.Power.{agreed_fits, power_on}
 use Rattle.rules.specs.Calls.{Opening, Call}
 use Rattle.store.specs.Store.{empty_store}
 use Rattle.model.specs.Refusals.{refuse, open_refusal}
@@ -59,7 +59,7 @@ every_list o store cs t =
 
 -- and there is such an opening
 opens_one : opens o empty_store ≡ true
-unfolding opens open_refusal refuse is_month agreed_fits
+unfolding opens open_refusal refuse is_month agreed_fits power_on
 opens_one = refl
 
 pub any_list : (cs : List Call) → Lists o cs

@@ -10,14 +10,14 @@ use Rattle.calendar.specs.Calendar.{leap_year, is_month, month_days, month_hours
 use Rattle.numbers.specs.Rounding.{half_up}
 use Rattle.sharing.specs.Shares.{portion, taken, spread, shares_over}
 use Rattle.power.specs.declared.Cable.{Cable}
-use Rattle.power.specs.Power.{cable_fits, agreed_fits, list_fits, shared_power, power_on}
+use Rattle.power.specs.Power.{formula, cable_fits, agreed_fits, list_fits, shared_power, power_on}
 use Rattle.marks.specs.Marks.{high, crowded, unmatched}
 use Rattle.contract.specs.declared.Contract.{Contract}
 use Rattle.contract.specs.Contract.{no_cable, kept}
 use Rattle.record.specs.declared.Record.{Record}
 use Rattle.record.specs.declared.Readings.{Readings}
 use Rattle.record.specs.declared.Service.{Service}
-use Rattle.record.specs.Record.{given_as, no_readings, zero_record, fresh_record, with_date, with_service, with_readings}
+use Rattle.record.specs.Record.{given_as, no_readings, zero_record, fresh_record, with_contract, with_date, with_service, with_readings}
 use Rattle.record.specs.Record.{with_serving, with_denials, with_billing, with_control, with_first, with_second}
 use Rattle.validity.specs.Valid.{volume_limit, valid}
 use Rattle.store.specs.Store.{store_fits}
@@ -91,7 +91,7 @@ opening_numbers :
     × (open_refusal 10416 (opening 2023 1 1 0 2 100 no_cable (1 ∷ 1 ∷ []) 2) ≡ 14)
     × (open_refusal 10416 (opening 2023 1 1 0 2 100 no_cable (1 ∷ 1 ∷ []) 1) ≡ 0)
     × (open_refusal 10416 (opening 2014 1 1 0 1 1000000 (cable 0 0 0 9) [] 7) ≡ 0)
-    × (open_refusal 10416 (opening 2999 12 2 2 3 0 (cable 2000 250000 0 3) [] 0) ≡ 0)
+    × (open_refusal 10416 (opening 2999 12 1 2 3 0 (cable 2000 250000 0 3) [] 0) ≡ 0)
 unfolding refusal_definitions
 opening_numbers = (refl, refl, refl, refl, refl, refl, refl, refl, refl, refl, refl, refl, refl, refl, refl, refl, refl, refl, refl, refl)
 
@@ -109,8 +109,59 @@ opening_limits :
     × (open_refusal 10416 (opening 2023 1 1 2 3 0 (cable 1 1 1000 1) [] 0) ≡ 0)
     × (open_refusal 10416 (opening 2023 1 1 2 3 0 (cable 1 1 1001 1) [] 0) ≡ 13)
     × (open_refusal 10416 (opening 2023 1 1 2 3 0 (cable 1 1 900 2) [] 0) ≡ 13)
-unfolding refusal_definitions
+unfolding refusal_definitions power_on
 opening_limits = (refl, refl, refl, refl, refl, refl, refl, refl, refl, refl, refl, refl)
+
+-- an integral billing meter on basis 1: 669 kW passes and 670 do not, whatever the control meter is
+integral_agreed :
+    (open_refusal 10416 (opening 2023 1 2 0 1 669 no_cable [] 0) ≡ 0)
+    × (open_refusal 10416 (opening 2023 1 2 0 1 670 no_cable [] 0) ≡ 15)
+    × (open_refusal 10416 (opening 2023 1 2 1 1 669 no_cable [] 0) ≡ 0)
+    × (open_refusal 10416 (opening 2023 1 2 1 1 670 no_cable [] 0) ≡ 15)
+    × (open_refusal 10416 (opening 2023 1 2 2 1 1 no_cable [] 0) ≡ 0)
+    × (open_refusal 10416 (opening 2023 1 2 2 1 1000000 no_cable [] 0) ≡ 15)
+    × (open_refusal 10416 (opening 2023 1 1 0 1 670 no_cable [] 0) ≡ 0)
+    × (open_refusal 10416 (opening 2023 1 1 1 1 670 no_cable [] 0) ≡ 0)
+    × (open_refusal 10416 (opening 2023 1 1 2 1 1000000 no_cable [] 0) ≡ 0)
+unfolding refusal_definitions power_on
+integral_agreed = (refl, refl, refl, refl, refl, refl, refl, refl, refl)
+
+-- on basis 2 it is the share: of 1,339 kW by two equal cables 670 for the first and 669 for the other, and of 10,000 by 64 no more than 157
+integral_shared :
+    (open_refusal 10416 (opening 2023 1 2 0 2 1339 no_cable (1 ∷ 1 ∷ []) 0) ≡ 15)
+    × (open_refusal 10416 (opening 2023 1 2 0 2 1339 no_cable (1 ∷ 1 ∷ []) 1) ≡ 0)
+    × (open_refusal 10416 (opening 2023 1 2 0 2 669 no_cable (7 ∷ []) 0) ≡ 0)
+    × (open_refusal 10416 (opening 2023 1 2 0 2 670 no_cable (7 ∷ []) 0) ≡ 15)
+    × (open_refusal 10416 (opening 2023 1 2 0 2 10000 no_cable (replicate 64 1) 63) ≡ 0)
+    × (open_refusal 10416 (opening 2023 1 1 0 2 1339 no_cable (1 ∷ 1 ∷ []) 0) ≡ 0)
+unfolding refusal_definitions power_on shared_power shares_over spread taken portion half_up
+integral_shared = (refl, refl, refl, refl, refl, refl)
+
+-- on basis 3 the formula at t = 1: 1339 × 250 × 1000 / 500,000 is 669.5 and counts as 670, and 15 × 22,339 × 999 / 500,000 is just below; with one
+-- phase the same of three times as many volts
+integral_cabled :
+    (open_refusal 10416 (opening 2023 1 2 0 3 0 (cable 1339 250 1000 3) [] 0) ≡ 15)
+    × (open_refusal 10416 (opening 2023 1 2 0 3 0 (cable 15 22339 999 3) [] 0) ≡ 0)
+    × (open_refusal 10416 (opening 2023 1 2 0 3 0 (cable 1339 750 1000 1) [] 0) ≡ 15)
+    × (open_refusal 10416 (opening 2023 1 2 0 3 0 (cable 15 67017 999 1) [] 0) ≡ 0)
+    × (open_refusal 10416 (opening 2023 1 2 0 3 670 (cable 100 230 0 3) [] 0) ≡ 0)
+    × (open_refusal 10416 (opening 2023 1 1 0 3 0 (cable 1339 250 1000 3) [] 0) ≡ 0)
+unfolding refusal_definitions power_on formula half_up
+integral_cabled = (refl, refl, refl, refl, refl, refl)
+
+-- 1 and 10 to 14 come before 15, where P is 670 kW or more by what is asked for; the last place has no share
+before_15 :
+    (open_refusal 10415 (opening 2023 1 2 0 1 1000000 no_cable [] 0) ≡ 1)
+    × (open_refusal 10416 (opening 2023 0 2 0 1 1000000 no_cable [] 0) ≡ 10)
+    × (open_refusal 10416 (opening 2023 1 2 3 1 1000000 no_cable [] 0) ≡ 11)
+    × (open_refusal 10416 (opening 2023 1 2 0 1 1000001 no_cable [] 0) ≡ 12)
+    × (open_refusal 10416 (opening 2023 1 2 0 0 1000000 (cable 2000 250000 1000 3) [] 0) ≡ 12)
+    × (open_refusal 10416 (opening 2023 1 2 0 3 1000000 (cable 2000 250000 1000 2) [] 0) ≡ 13)
+    × (open_refusal 10416 (opening 2023 1 2 0 2 1000000 no_cable (1 ∷ 2001 ∷ []) 1) ≡ 14)
+    × (open_refusal 10416 (opening 2023 1 2 0 2 1000000 no_cable (replicate 65 1) 0) ≡ 14)
+    × (open_refusal 10416 (opening 2023 1 2 0 2 1000000 no_cable (1 ∷ []) 1) ≡ 14)
+unfolding refusal_definitions
+before_15 = (refl, refl, refl, refl, refl, refl, refl, refl, refl)
 
 -- what is kept: P on basis 1 and 2, with a share of 0 too, the cable alone on basis 3
 opening_keeps :
@@ -301,6 +352,20 @@ closed marks n = own_refusal (point 1 2) [] (closing marks (zeros n))
 settlement : (closed [] 744 ≡ 40) × (closed (4 ∷ []) 743 ≡ 40) × (closed (zeros 671) 744 ≡ 40) × (closed (zeros 673) 744 ≡ 40)
 unfolding refusal_definitions
 settlement = (refl, refl, refl, refl)
+
+-- a point with an integral billing meter and 1,000,000 kW, opened earlier, goes on: a reading, a report, and a closing up to its buffer's length
+abbrev large : Record
+large =
+    with_contract (point 2 0)
+    (record { billing = 2; control = 0; basis = 1; power = record { 0 = 1000000 }; cable = no_cable })
+
+opened_earlier :
+    (refuse_anyone 10416 large 0 ≡ 0)
+    × (number large (billing_volume 5) ≡ 0)
+    × (reported large (failure 1) ≡ 0)
+    × (own_refusal large [] (closing (zeros 672) (zeros 743)) ≡ 44)
+unfolding refusal_definitions
+opened_earlier = (refl, refl, refl, refl)
 
 -- a closing of no month, which has no hours and so no marks, with a store of a word and a buffer
 abbrev of_none : ℕ → ℕ → ℕ

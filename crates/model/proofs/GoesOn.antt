@@ -66,11 +66,10 @@ contract_opens words o a =
     all (contract_tests (kept c o.currents o.place))
     (a.billing, (a.control, (known, (rw f (le-leb _ 1000000 most), (rw f, (rw f, tt)))))))
 
--- AN ACCEPTED OPENING
-pub opening_sound : (o : Opening) (store : List ℕ) → opens o store ≡ true → Sound (opened o)
-unfolding opens opened
-opening_sound o store t =
-    let a = allowed o (eqb-true (open_refusal (length store) o) 0 t) in
+-- AN OPENING of which 1 and 10 to 14 say nothing, whatever 15 says of it
+pub asked_sound : (words : ℕ) (o : Opening) → Allowed words o → Sound (opened o)
+unfolding opened
+asked_sound words o a =
     let d = o.date in
     record {
       fits = record {
@@ -78,7 +77,7 @@ opening_sound o store t =
             valid_from _
             (record {
               opened = refl;
-              contract = contract_opens (length store) o a;
+              contract = contract_opens words o a;
               month = rw a.month;
               service = service_from fresh_service d (record { run = lit≤ tt; serving = lit≤ tt; denials = lit≤ tt; month = refl; before = zero-le });
               past = past_from no_past d (record { years = refl; latest = refl; row = refl });
@@ -92,6 +91,11 @@ opening_sound o store t =
       run = zero-le;
       total = zero-le;
     }
+
+-- AN ACCEPTED OPENING
+pub opening_sound : (o : Opening) (store : List ℕ) → opens o store ≡ true → Sound (opened o)
+unfolding opens
+opening_sound o store t = asked_sound (length store) o (allowed o (eqb-true (open_refusal (length store) o) 0 t))
 
 -- a call that does not close the month leaves the month and the total, and does not raise the run
 record Stays (s t : State) : Type 0 where

@@ -14,13 +14,13 @@ use Rattle.calendar.specs.Calendar.{is_month, open_hours}
 use Rattle.calendar.proofs.Laws.{open_high}
 use Rattle.power.specs.declared.Cable.{Cable}
 use Rattle.power.specs.Power.{agreed_fits, cable_fits, list_fits, basis_fits}
-use Rattle.contract.specs.Contract.{is_billing_kind, is_control_kind, is_agreed}
+use Rattle.contract.specs.Contract.{is_billing_kind, is_control_kind, meters_fit, is_agreed}
 use Rattle.record.specs.declared.Record.{Record}
 use Rattle.record.specs.Record.{zero_record}
 use Rattle.validity.specs.Valid.{valid}
 use Rattle.rules.specs.Calls.{Opening, Call, read, report, closing, is_closing, buffer_of}
 use Rattle.rules.specs.Rules.{no_figures}
-use Rattle.model.specs.Refusals.{refuse, refuse_anyone, refuse_reading, not_month, open_refusal, reading_number, report_number, own_refusal}
+use Rattle.model.specs.Refusals.{refuse, refuse_anyone, refuse_reading, not_month, refuse_asked, open_refusal, reading_number, report_number, own_refusal}
 use Rattle.model.specs.Model.{State, after_reading, after_report, accept, refusal, accepted, leaves, without_figures, figures_of, hours_out}
 use Rattle.model.specs.Model.{answer, buffer_after, Does}
 use Rattle.model.specs.declared.Answer.{Answer}
@@ -152,23 +152,40 @@ basis_passed k p currents place cable a b d =
     (λ t. rw (eqb-true k 3 t) (not-false _ (rw (eqb-true k 3 t) at b)))
     (λ h. absurd (true≢false (rw (f, g, h) at a)))))
 
-pub allowed : {words : ℕ} (o : Opening) → open_refusal words o ≡ 0 → Allowed words o
-unfolding open_refusal
-allowed o h =
+-- what 1 and 10 to 14 leave of an opening
+pub record AskedPassed (words : ℕ) (o : Opening) (rest : ℕ) : Type 0 where
+  pub size : not (eqb words 10416) ≡ false
+  pub month : not (is_month o.date) ≡ false
+  pub meters : not (meters_fit o.asked) ≡ false
+  pub based : not (eqb o.asked.basis 3 || (is_agreed o.asked.basis && agreed_fits o.asked.power.0)) ≡ false
+  pub cabled : eqb o.asked.basis 3 && not (cable_fits o.asked.cable) ≡ false
+  pub listed : eqb o.asked.basis 2 && not (list_fits o.currents o.place) ≡ false
+  pub own : rest ≡ 0
+
+pub asked_passed : {words : ℕ} (o : Opening) {rest : ℕ} → refuse_asked words o rest ≡ 0 → AskedPassed words o rest
+asked_passed o h =
     let a = skip (lit< tt) h in
     let b = skip (lit< tt) a.1 in
     let d = skip (lit< tt) b.1 in
     let e = skip (lit< tt) d.1 in
     let f = skip (lit< tt) e.1 in
     let g = skip (lit< tt) f.1 in
-    let kinds = both (is_billing_kind o.asked.billing) (is_control_kind o.asked.control) (not-false _ d.0) in
+    record { size = a.0; month = b.0; meters = d.0; based = e.0; cabled = f.0; listed = g.0; own = g.1 }
+
+pub asked_allows : {words : ℕ} (o : Opening) {rest : ℕ} → AskedPassed words o rest → Allowed words o
+asked_allows o p =
+    let kinds = both (is_billing_kind o.asked.billing) (is_control_kind o.asked.control) (not-false _ p.meters) in
     record {
-      size = eqb-true _ _ (not-false _ a.0);
-      month = not-false _ b.0;
+      size = eqb-true _ _ (not-false _ p.size);
+      month = not-false _ p.month;
       billing = kinds.0;
       control = kinds.1;
-      basis = basis_passed o.asked.basis o.asked.power.0 o.currents o.place o.asked.cable e.0 f.0 g.0;
+      basis = basis_passed o.asked.basis o.asked.power.0 o.currents o.place o.asked.cable p.based p.cabled p.listed;
     }
+
+pub allowed : {words : ℕ} (o : Opening) → open_refusal words o ≡ 0 → Allowed words o
+unfolding open_refusal
+allowed o h = asked_allows o (asked_passed o h)
 
 -- an opening that is refused, and one that is accepted
 pub not_opened : (o : Opening) (store : List ℕ) {number : ℕ} {a : Answer} → number ≡ open_refusal (length store) o → number ≢ 0

@@ -2,6 +2,7 @@ pub mod CallExamples
 pub mod Closes
 pub mod Examples
 pub mod GoesOn
+pub mod Integral
 pub mod Keeps
 pub mod Laws
 pub mod RefusedExamples

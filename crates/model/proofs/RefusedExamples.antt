@@ -6,9 +6,9 @@ use Rattle.record.specs.Record.{zero_record}
 use Rattle.rules.specs.Rules.{no_figures}
 use Rattle.model.specs.declared.refusals.Refusal.{Refusal}
 use Rattle.model.specs.declared.refusals.Refusal.TheVariants.{StoreSize, InvalidRecord, CalendarOver, NoSuchMonth, MeterKind, BasisOrPower, CableValue}
-use Rattle.model.specs.declared.refusals.Refusal.TheVariants.{CurrentsOrPlace, NoSuchMeter, Barred, AlreadyGiven, NotMonthHours, ReadingAboveLimit}
-use Rattle.model.specs.declared.refusals.Refusal.TheVariants.{OutOfService, UnknownReason, InService, TwoDenials, NoDenial, NotMonthMarks, UnknownMark}
-use Rattle.model.specs.declared.refusals.Refusal.TheVariants.{TooManyPeakHours, CapacityHours, HourBufferSize, WordAboveLimit}
+use Rattle.model.specs.declared.refusals.Refusal.TheVariants.{CurrentsOrPlace, IntegralMeter, NoSuchMeter, Barred, AlreadyGiven, NotMonthHours}
+use Rattle.model.specs.declared.refusals.Refusal.TheVariants.{ReadingAboveLimit, OutOfService, UnknownReason, InService, TwoDenials, NoDenial}
+use Rattle.model.specs.declared.refusals.Refusal.TheVariants.{NotMonthMarks, UnknownMark, TooManyPeakHours, CapacityHours, HourBufferSize, WordAboveLimit}
 use Rattle.model.specs.Refused.{refusal_number, number_or, number_of, answered}
 use Rattle.model.proofs.Examples.{point}
 
@@ -22,7 +22,8 @@ opening_numbers :
     × (refusal_number BasisOrPower ≡ 12)
     × (refusal_number CableValue ≡ 13)
     × (refusal_number CurrentsOrPlace ≡ 14)
-opening_numbers = (refl, refl, refl, refl, refl, refl, refl, refl)
+    × (refusal_number IntegralMeter ≡ 15)
+opening_numbers = (refl, refl, refl, refl, refl, refl, refl, refl, refl)
 
 -- the meter readers' and the network firm's
 month_numbers :

@@ -1,10 +1,10 @@
--- Who causes which number (document 01): the one list of refusals. The lowest number that applies is returned, 0 where none does.
+-- Who causes which number (document 01, and E3 of document 02): the one list of refusals. The lowest number that applies is returned, 0 where none does.
 use Rattle.std.specs.Prelude.{ℕ, ◌/◌, Bool, false, not, cond, ◌&&◌, ◌||◌, List, length, eqb, leb, ltb}
 use Rattle.numbers.specs.Lists.{none_above}
 use Rattle.calendar.specs.Calendar.{is_month, open_hours}
-use Rattle.power.specs.Power.{cable_fits, agreed_fits, list_fits}
+use Rattle.power.specs.Power.{cable_fits, agreed_fits, list_fits, power_on}
 use Rattle.marks.specs.Marks.{high, crowded, unmatched}
-use Rattle.contract.specs.Contract.{meters_fit, is_agreed}
+use Rattle.contract.specs.Contract.{meters_fit, integral_on_big_load, is_agreed}
 use Rattle.record.specs.declared.Record.{Record}
 use Rattle.record.specs.declared.Service.{Service}
 use Rattle.record.specs.Record.{is_set}
@@ -27,9 +27,9 @@ refuse_anyone words r rest =
     -- 3 the calendar is over (year 3000)
     (refuse (eqb r.date.year 3000) 3 rest))
 
--- CONTRACT STAFF, opening, of a store of so many words; opening has only 1 of anyone's numbers
-unfoldable pub open_refusal : ℕ → Opening → ℕ
-open_refusal words o =
+-- CONTRACT STAFF, opening, of a store of so many words; opening has only 1 of anyone's numbers. What is asked for has to fit before P is known
+abbrev pub refuse_asked : ℕ → Opening → ℕ → ℕ
+refuse_asked words o rest =
     refuse (not (eqb words 10416)) 1
     -- 10 year or month
     (refuse (not (is_month o.date)) 10
@@ -40,7 +40,15 @@ open_refusal words o =
     -- 13 cable value on basis 3
     (refuse (eqb o.asked.basis 3 && not (cable_fits o.asked.cable)) 13
     -- 14 on basis 2, list empty or above 64, a current outside 1 to 2,000, or place outside the list
-    (refuse (eqb o.asked.basis 2 && not (list_fits o.currents o.place)) 14 0)))))
+    (refuse (eqb o.asked.basis 2 && not (list_fits o.currents o.place)) 14 rest)))))
+
+-- P, the point's own: on basis 2 its share, on basis 3 the formula at t = 1
+abbrev pub asked_power : Opening → ℕ
+asked_power o = power_on o.asked.basis o.asked.power.0 o.currents o.place o.asked.cable
+
+-- 15 an integral billing meter where P is 670 kW or more (document 02, E3), after 14
+unfoldable pub open_refusal : ℕ → Opening → ℕ
+open_refusal words o = refuse_asked words o (refuse (integral_on_big_load o.asked.billing (asked_power o)) 15 0)
 
 -- METER READERS: which of 20 to 24 applies; 20 no such meter, or a reading of the other form, or neighbour source not 1 or 2
 abbrev pub refuse_reading : Bool → Bool → Bool → Bool → Bool → ℕ

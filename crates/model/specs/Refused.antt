@@ -4,9 +4,9 @@ use Rattle.record.specs.declared.Record.{Record}
 use Rattle.model.specs.declared.Answer.{Answer}
 use Rattle.model.specs.declared.refusals.Refusal.{Refusal}
 use Rattle.model.specs.declared.refusals.Refusal.TheVariants.{StoreSize, InvalidRecord, CalendarOver, NoSuchMonth, MeterKind, BasisOrPower, CableValue}
-use Rattle.model.specs.declared.refusals.Refusal.TheVariants.{CurrentsOrPlace, NoSuchMeter, Barred, AlreadyGiven, NotMonthHours, ReadingAboveLimit}
-use Rattle.model.specs.declared.refusals.Refusal.TheVariants.{OutOfService, UnknownReason, InService, TwoDenials, NoDenial, NotMonthMarks, UnknownMark}
-use Rattle.model.specs.declared.refusals.Refusal.TheVariants.{TooManyPeakHours, CapacityHours, HourBufferSize, WordAboveLimit}
+use Rattle.model.specs.declared.refusals.Refusal.TheVariants.{CurrentsOrPlace, IntegralMeter, NoSuchMeter, Barred, AlreadyGiven, NotMonthHours}
+use Rattle.model.specs.declared.refusals.Refusal.TheVariants.{ReadingAboveLimit, OutOfService, UnknownReason, InService, TwoDenials, NoDenial}
+use Rattle.model.specs.declared.refusals.Refusal.TheVariants.{NotMonthMarks, UnknownMark, TooManyPeakHours, CapacityHours, HourBufferSize, WordAboveLimit}
 use Rattle.rules.specs.Calls.{Opening, Call}
 use Rattle.model.specs.Refusals.{open_refusal}
 use Rattle.model.specs.Model.{State, state, accept, refusal, without_figures}
@@ -31,6 +31,8 @@ refusal_number BasisOrPower = 12
 refusal_number CableValue = 13
 -- on basis 2, list empty or above 64, a current outside 1 to 2,000, or place outside the list
 refusal_number CurrentsOrPlace = 14
+-- an integral billing meter where P is 670 kW or more
+refusal_number IntegralMeter = 15
 -- METER READERS
 -- no such meter, or a reading of the other form, or neighbour source not 1 or 2
 refusal_number NoSuchMeter = 20

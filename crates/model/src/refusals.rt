@@ -18,6 +18,7 @@ pub enum Refusal {
     BasisOrPower = 12,
     CableValue = 13,
     CurrentsOrPlace = 14,
+    IntegralMeter = 15,
     NoSuchMeter = 20,
     Barred = 21,
     AlreadyGiven = 22,

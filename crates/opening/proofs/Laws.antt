@@ -10,15 +10,27 @@ use lib.ListN.{length}
 use mathlib.Core.Path.{◌≡◌, ◌∙◌}
 use Rattle.units.specs.declared.Kw.{Kw}
 use Rattle.power.specs.Power.{power_in, basis_fits, power_on}
-use Rattle.contract.specs.Contract.{keeping, kept}
+use Rattle.contract.specs.Contract.{integral_on_big_load, keeping, kept}
 use Rattle.rules.specs.Calls.{Opening}
-use Rattle.model.specs.Refusals.{open_refusal}
+use Rattle.model.specs.Refusals.{refuse, refuse_asked, asked_power, open_refusal}
 use Rattle.record.specs.declared.Record.{Record}
 use Rattle.record.specs.Record.{fresh_record, zero_record}
 use Rattle.model.specs.declared.Answer.{Answer}
 use Rattle.model.specs.Model.{state, without_figures}
 use Rattle.model.specs.Opening.{opened, Opens}
-use Rattle.model.proofs.Laws.{allowed, not_opened}
+use Rattle.model.proofs.Laws.{asked_passed, asked_allows, allowed, not_opened}
+
+-- the number of an opening of which 1 and 10 to 14 say nothing, from the power that is worked out then
+pub number_after : (words : ℕ) (o : Opening) (p : Kw) {n : ℕ} → ((rest : ℕ) → refuse_asked words o rest ≡ rest)
+    → p.0
+    ≡ power_in (basis_fits o.asked.basis o.asked.power.0 o.currents o.place o.asked.cable)
+    (power_on o.asked.basis o.asked.power.0 o.currents o.place o.asked.cable)
+    → refuse (integral_on_big_load o.asked.billing p.0) 15 0 ≡ n
+    → open_refusal words o ≡ n
+unfolding open_refusal
+number_after words o p h e r =
+    let q : p.0 ≡ asked_power o = e ∙ rw (asked_allows o (asked_passed o (h 0))).basis in
+    h _ ∙ rw (← q) r
 
 pub kept_is : (words : ℕ) (o : Opening) (p : Kw) → open_refusal words o ≡ 0
     → p.0

@@ -1,30 +1,30 @@
 // Opening a point, on its three bases.
 #![tactic(auto)]
 
-ghost use Rattle.std.specs.Prelude.{◌≡◌};
-ghost use Rattle.model.specs.Refusals.{open_refusal};
+ghost use Rattle.std.specs.Prelude.{ℕ, ◌≡◌};
+ghost use Rattle.model.specs.Refusals.{refuse_asked};
 ghost use Rattle.model.specs.Opening.{Opens};
-ghost use Rattle.model.specs.Refused.{number_of, GivesPoint};
+ghost use Rattle.model.specs.Refused.{number_or, GivesPoint};
 
 use calendar::{Date, is_month};
-use contract::{Contract, is_agreed, keep, meters_fit};
+use contract::{Contract, integral_on_big_load, is_agreed, keep, meters_fit};
 use model::refusals::{Refusal, refuse_if};
 use model::{Answer, answer_of};
 use power::{agreed_fits, list_fits, power_of};
 use record::{Record, fresh_record, zero_record};
 use store::clear_store;
 
-// The refusals of an opening: 1 and 10 to 14. Contract, month, list and place come from C as four arguments, and go on so: a
+// What is asked for has to fit: 1 and 10 to 14. Contract, month, list and place come from C as four arguments, and go on so: a
 // struct of them would be made in one function and taken apart in the next.
-#[tactic(auto, unfolding(model::specs::Refusals::open_refusal))]
-fn check_opening(
+fn check_asked(
     words: usize,
     asked: Contract,
     date: Date,
     currents: &[u32],
     place: usize,
 ) -> Result<(), Refusal>
-    ensures { number_of result ≡ open_refusal words (record { asked = asked; date = date; currents = currents.now; place = place }) }
+    ensures { (rest : ℕ)
+        → refuse_asked words (record { asked = asked; date = date; currents = currents.now; place = place }) rest ≡ number_or result rest }
 {
     let cabled = asked.basis == 3;
     let agreed = is_agreed(asked.basis) && agreed_fits(asked.power);
@@ -39,6 +39,8 @@ fn check_opening(
     )
 }
 
+// The refusals of an opening, 15 behind those of `check_asked`, and else the point.
+#[tactic(auto, unfolding(model::specs::Refusals::open_refusal))]
 fn try_open(
     asked: Contract,
     date: Date,
@@ -48,8 +50,12 @@ fn try_open(
 ) -> Result<Record, Refusal>
     ensures { GivesPoint (record { asked = asked; date = date; currents = currents.now; place = place }) store.old result store.new }
 {
-    check_opening(store.len(), asked, date, currents, place)?;
+    check_asked(store.len(), asked, date, currents, place)?;
     let p = power_of(asked.basis, asked.power, currents, place, asked.cable);
+    refuse_if(
+        integral_on_big_load(asked.billing, p),
+        Refusal::IntegralMeter,
+    )?;
     clear_store(store);
     Ok(fresh_record(keep(asked, p), date))
 }

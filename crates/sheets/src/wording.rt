@@ -79,6 +79,7 @@ pub(crate) fn refusal_words(refusal: u32) -> &'static str {
         13 => "a value of the cable is outside its limits",
         14 =>
             "the list of currents is empty, too long or holds a wrong current, or lacks the place",
+        15 => "an integral billing meter is not accepted where P is 670 kW or more",
         20 => "the point has no meter for such a reading, or the neighbour's source is not 1 or 2",
         21 => "the point is out of service, or access was denied twice",
         22 => "the reading is already given this month",

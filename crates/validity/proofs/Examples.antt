@@ -61,6 +61,9 @@ control_meter = (refl, refl, refl, refl)
 abbrev based : ℕ → ℕ → Cable → Record
 based b p k = with (record { billing = 1; control = 2; basis = b; power = record { 0 = p }; cable = k })
 
+abbrev integral : ℕ → ℕ → Cable → Record
+integral b p k = with (record { billing = 2; control = 0; basis = b; power = record { 0 = p }; cable = k })
+
 abbrev cable : ℕ → ℕ → ℕ → ℕ → Cable
 cable i u c f = record { amperes = i; volts = u; cosine = c; phases = f }
 
@@ -85,6 +88,13 @@ cable_limits :
     × Fails (based 3 0 (cable 1 230 900 4))
 unfolding Passes Fails valid_definitions
 cable_limits = (refl, refl, refl, refl, refl, refl, refl, refl, refl, refl, refl, refl, refl, refl, refl)
+
+-- an integral billing meter with any P: number 2 does not ask what an opening is asked with 15
+integral_meter :
+    Passes (integral 1 669 no_cable) × Passes (integral 1 670 no_cable) × Passes (integral 1 1000000 no_cable) × Passes (integral 2 1000000 no_cable)
+    × Passes (integral 3 0 (cable 2000 250000 1000 3))
+unfolding Passes valid_definitions
+integral_meter = (refl, refl, refl, refl, refl)
 
 unused_fields :
     Fails (based 1 100 (cable 1 0 0 0)) × Fails (based 1 100 (cable 0 1 0 0)) × Fails (based 2 100 (cable 0 0 1 0)) × Fails (based 2 100 (cable 0 0 0 1))
