@@ -45,6 +45,10 @@ impl Step {
     pub fn is_call(&self) -> bool {
         !matches!(self.act, Act::Forge(_))
     }
+
+    pub fn is_opening(&self) -> bool {
+        matches!(self.act, Act::Open(_))
+    }
 }
 
 // Writing.

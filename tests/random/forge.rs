@@ -36,7 +36,7 @@ pub fn forged(dice: &mut Dice, base: &Record, store: &[u32]) -> Forged {
 
 /// A record that number 2 lets pass.
 fn sound(dice: &mut Dice) -> Record {
-    let mut opening = values::opening(dice);
+    let mut opening = values::earlier_opening(dice);
     if dice.percent(3) {
         (opening.year, opening.month) = (3000, 1);
     }

@@ -60,7 +60,8 @@ impl Plan {
             return (!ends).then(|| lend(dice, act));
         }
         if dice.below(500) == 0 {
-            return Some(Step::new(any_opening(dice, 50)));
+            let act = any_opening(dice, 50);
+            return Some(lend(dice, act));
         }
         let act = if dice.percent(self.bad) { any_call(dice, record) } else { self.fitting_call(dice, record) };
         Some(lend(dice, act))
@@ -97,10 +98,11 @@ fn weights(dice: &mut Dice) -> [u64; KINDS] {
     weights
 }
 
-/// The whole store and an hour buffer of the right length, seldom another.
+/// The whole store and an hour buffer of the right length, seldom another; at an opening, of which there are few, more
+/// often.
 pub fn lend(dice: &mut Dice, act: Act) -> Step {
     let mut step = Step::new(act);
-    if dice.below(150) == 0 {
+    if dice.below(if step.is_opening() { 12 } else { 150 }) == 0 {
         step.lent = dice.pick(&[0, 1, ROW, STORE - 1, STORE + 1, STORE + SPARE]);
     }
     if matches!(step.act, Act::Call(Call::Close { .. })) && dice.below(40) == 0 {

@@ -3,7 +3,7 @@
 use crate::case::{Act, Forged, Step};
 use crate::numbers::{from_numbers, numbers, FIELDS};
 use crate::reference::calls::{Call, Opening};
-use crate::reference::rules::{index, year_and_month};
+use crate::reference::rules::{index, year_and_month, Contract};
 use crate::sides::{guarded, Sides, ROW, STORE};
 
 /// The place of the first step after which the sides differ, and how.
@@ -132,10 +132,13 @@ fn simpler_forged(forged: &Forged) -> Vec<Forged> {
     simpler
 }
 
+/// On basis 1 with the power as it is given or as it comes out, without what the basis does not use, with a shorter
+/// list, and with less power.
 fn simpler_openings(opening: &Opening) -> Vec<Opening> {
     let mut simpler = Vec::new();
     if opening.basis != 1 {
-        simpler.push(Opening { basis: 1, power: opening.power.max(1), ..opening.clone() });
+        let powers = [opening.power, Contract::from_opening(opening).kilowatts() as u32];
+        simpler.extend(powers.map(|power| Opening { basis: 1, power: power.max(1), ..opening.clone() }));
     }
     if opening.basis != 2 && !opening.currents.is_empty() {
         simpler.push(Opening { currents: Vec::new(), place: 0, ..opening.clone() });
@@ -143,11 +146,30 @@ fn simpler_openings(opening: &Opening) -> Vec<Opening> {
     if opening.basis != 3 && opening.phases != 0 {
         simpler.push(Opening { amperes: 0, volts: 0, cosine: 0, phases: 0, ..opening.clone() });
     }
-    if opening.power > 1 {
-        simpler.push(Opening { power: 1, ..opening.clone() });
-        simpler.push(Opening { power: opening.power / 2, ..opening.clone() });
+    if opening.basis == 2 {
+        simpler.extend(shorter_lists(opening));
     }
+    let powers = simpler_volumes(opening.power as u64).filter(|power| *power > 0);
+    simpler.extend(powers.map(|power| Opening { power: power as u32, ..opening.clone() }));
     simpler
+}
+
+/// Without currents after the place's or before it, as many at once as half the list down to one.
+fn shorter_lists(opening: &Opening) -> Vec<Opening> {
+    let (length, place) = (opening.currents.len(), opening.place as usize);
+    let mut shorter = Vec::new();
+    let mut size = length / 2;
+    while size > 0 {
+        if place + size < length {
+            shorter.push(Opening { currents: opening.currents[..length - size].to_vec(), ..opening.clone() });
+        }
+        if place >= size {
+            let place = (place - size) as u32;
+            shorter.push(Opening { currents: opening.currents[size..].to_vec(), place, ..opening.clone() });
+        }
+        size /= 2;
+    }
+    shorter
 }
 
 /// A volume made plain, and less by ever smaller parts of it, so that the least one is near after few steps.

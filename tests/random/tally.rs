@@ -3,14 +3,14 @@
 use crate::case::{Act, Step};
 use crate::reference::calls::{Call, Opening};
 use crate::reference::point::{Closed, Record, BILLING, CONTROL};
-use crate::reference::rules::{days_of, hours_of, neighbour_volume, peak_hours, year_and_month};
+use crate::reference::rules::{days_of, hours_of, neighbour_volume, peak_hours, year_and_month, Contract, BIG_LOAD};
 use crate::sides::{Met, Sides, ROW};
 
-/// The numbers of document 01.
-const NUMBERS: [usize; 24] =
-    [1, 2, 3, 10, 11, 12, 13, 14, 20, 21, 22, 23, 24, 30, 31, 32, 33, 34, 40, 41, 42, 43, 44, 45];
+/// The numbers of document 01, and of the requests of document 02.
+const NUMBERS: [usize; 25] =
+    [1, 2, 3, 10, 11, 12, 13, 14, 15, 20, 21, 22, 23, 24, 30, 31, 32, 33, 34, 40, 41, 42, 43, 44, 45];
 
-const SITUATIONS: [&str; 37] = [
+const SITUATIONS: [&str; 58] = [
     "opening in January to April 2014",
     "opening on basis 1",
     "opening on basis 2",
@@ -19,6 +19,24 @@ const SITUATIONS: [&str; 37] = [
     "opening of a point that is open",
     "refused opening of a point that is open",
     "half in the sharing of a power",
+    "opening refused with 15 on basis 1",
+    "opening refused with 15 on basis 2",
+    "opening refused with 15 on basis 3",
+    "opening refused with 15 at P = 670 on basis 1",
+    "opening refused with 15 at P = 670 on basis 2",
+    "opening refused with 15 at P = 670 on basis 3",
+    "opening refused with 15 by a cable below 670 kW",
+    "opening refused with 1 that 15 would refuse too",
+    "opening refused with 10 that 15 would refuse too",
+    "opening refused with 11 that 15 would refuse too",
+    "opening refused with 12 that 15 would refuse too",
+    "opening refused with 13 that 15 would refuse too",
+    "opening refused with 14 that 15 would refuse too",
+    "integral meter with P = 669 opened on basis 1",
+    "integral meter with P = 669 opened on basis 2",
+    "integral meter with P = 669 opened on basis 3",
+    "integral meter opened with P below 670 of an agreed power of 670 or more",
+    "interval meter with P of 670 or more opened",
     "hours read, all 1,000,000",
     "volume of T × 1,000,000 read",
     "reading discarded by a failure",
@@ -48,6 +66,9 @@ const SITUATIONS: [&str; 37] = [
     "half in a sharing by the past",
     "half in the peak rule",
     "half in an even sharing, ground 9",
+    "closing of an integral meter with P of 670 or more on basis 1",
+    "closing of an integral meter with P of 670 or more on basis 2",
+    "closing of an integral meter with P of 670 or more on basis 3",
 ];
 
 #[derive(Clone)]
@@ -136,13 +157,17 @@ fn past_used(closed: &Closed, before: &Record) -> Option<((u32, u32), bool)> {
 fn situations(step: &Step, met: &Met, sides: &Sides) -> [bool; SITUATIONS.len()] {
     let mut flags = [false; SITUATIONS.len()];
     match &step.act {
-        Act::Open(opening) => flags[..8].copy_from_slice(&of_opening(opening, met, sides)),
+        Act::Open(opening) => {
+            flags[..8].copy_from_slice(&of_opening(opening, met, sides));
+            flags[8..26].copy_from_slice(&of_big_load(opening, met));
+        }
         Act::Call(Call::Close { marks }) => {
             if let Some(closed) = &met.closed {
-                flags[14..].copy_from_slice(&of_closing(marks, closed, &met.before, sides));
+                flags[32..55].copy_from_slice(&of_closing(marks, closed, &met.before, sides));
+                flags[55..].copy_from_slice(&big_integral_on(&met.before.contract));
             }
         }
-        Act::Call(call) if met.number == 0 => flags[8..14].copy_from_slice(&of_call(call, met, sides)),
+        Act::Call(call) if met.number == 0 => flags[26..32].copy_from_slice(&of_call(call, met, sides)),
         _ => {}
     }
     flags
@@ -162,6 +187,42 @@ fn of_opening(opening: &Opening, met: &Met, sides: &Sides) -> [bool; 8] {
         !accepted && met.before.is_open(),
         basis(2) && has_half(opening.power as u64, &opening.currents),
     ]
+}
+
+/// What an opening meets of number 15, by the contract that it asks for.
+fn of_big_load(opening: &Opening, met: &Met) -> [bool; 18] {
+    let asked = Contract::from_opening(opening);
+    let kilowatts = asked.kilowatts();
+    let [on_1, on_2, on_3] = big_integral_on(&asked).map(|big| big && met.number == 15);
+    let least = kilowatts == BIG_LOAD;
+    let too = |number: u32| met.number == number && asked.is_big_integral();
+    let integral = met.number == 0 && asked.billing == 2;
+    let most = |basis: u32| integral && asked.basis == basis && kilowatts == BIG_LOAD - 1;
+    [
+        on_1,
+        on_2,
+        on_3,
+        on_1 && least,
+        on_2 && least,
+        on_3 && least,
+        on_3 && asked.formula(1_000) < 1_000 * BIG_LOAD,
+        too(1),
+        too(10),
+        too(11),
+        too(12),
+        too(13),
+        too(14),
+        most(1),
+        most(2),
+        most(3),
+        integral && asked.basis == 2 && opening.power as u64 >= BIG_LOAD,
+        met.number == 0 && asked.billing == 1 && kilowatts >= BIG_LOAD,
+    ]
+}
+
+/// Whether the contract is one that 15 refuses at an opening, on bases 1 to 3.
+fn big_integral_on(contract: &Contract) -> [bool; 3] {
+    [1, 2, 3].map(|basis| contract.basis == basis && contract.is_big_integral())
 }
 
 fn of_call(call: &Call, met: &Met, sides: &Sides) -> [bool; 6] {

@@ -2,7 +2,7 @@
 
 use crate::dice::Dice;
 use crate::reference::calls::Opening;
-use crate::reference::rules::{index, year_and_month};
+use crate::reference::rules::{cable_formula, index, year_and_month, Contract, BIG_LOAD};
 
 pub const MILLION: u64 = 1_000_000;
 const MOST: u32 = u32::MAX;
@@ -49,12 +49,22 @@ fn currents(dice: &mut Dice) -> Vec<u32> {
     (0..points).map(|_| current(dice)).collect()
 }
 
-/// An opening that is accepted. What its basis does not use may be anything.
+/// An opening that is accepted.
 pub fn opening(dice: &mut Dice) -> Opening {
+    let mut opening = earlier_opening(dice);
+    if Contract::from_opening(&opening).is_big_integral() {
+        opening.billing = 1;
+    }
+    opening
+}
+
+/// An opening that no number but 15 refuses, as records opened earlier have it. What its basis does not use may be
+/// anything.
+pub fn earlier_opening(dice: &mut Dice) -> Opening {
     let (year, month) = month(dice);
     let currents = currents(dice);
     let mut opening = Opening {
-        billing: dice.from_to(1, 2) as u32,
+        billing: dice.pick(&[1, 2, 2]),
         control: dice.pick(&[0, 1, 2, 2]),
         basis: dice.from_to(1, 3) as u32,
         power: power(dice),
@@ -67,10 +77,71 @@ pub fn opening(dice: &mut Dice) -> Opening {
         place: dice.below(currents.len() as u64) as u32,
         currents,
     };
+    if dice.percent(15) {
+        let kilowatts = dice.pick(&[BIG_LOAD - 1, BIG_LOAD]);
+        give_power(dice, &mut opening, kilowatts);
+    }
     if dice.percent(20) {
         spoil_unused(dice, &mut opening);
     }
     opening
+}
+
+/// An opening that 15 refuses and no other number, many of them at the limit.
+fn big_opening(dice: &mut Dice) -> Opening {
+    let mut opening = Opening { billing: 2, ..earlier_opening(dice) };
+    if dice.percent(50) || !Contract::from_opening(&opening).is_big_integral() {
+        let more = dice.from_to(BIG_LOAD, 5_000);
+        let kilowatts = dice.pick(&[BIG_LOAD, BIG_LOAD, BIG_LOAD + 1, more]);
+        give_power(dice, &mut opening, kilowatts);
+    }
+    opening
+}
+
+/// Makes P so many kW by what the opening's basis uses. A list or cable is drawn until it has that P, for which a few
+/// tries are enough.
+fn give_power(dice: &mut Dice, o: &mut Opening, kilowatts: u64) {
+    for _ in 0..100 {
+        match o.basis {
+            1 => o.power = kilowatts as u32,
+            2 => give_list(dice, o, kilowatts),
+            _ => give_cable(dice, o, kilowatts),
+        }
+        if Contract::from_opening(o).kilowatts() == kilowatts {
+            return;
+        }
+    }
+}
+
+/// A list of which a place has about that share.
+fn give_list(dice: &mut Dice, o: &mut Opening, kilowatts: u64) {
+    o.currents = currents(dice);
+    o.place = dice.below(o.currents.len() as u64) as u32;
+    let all: u64 = o.currents.iter().map(|current| *current as u64).sum();
+    let own = o.currents[o.place as usize] as u64;
+    let power = dice.from_to((kilowatts - 1) * all / own, (kilowatts + 1) * all / own);
+    o.power = power.clamp(1, MILLION) as u32;
+}
+
+/// A cable of as few volts as are rounded to that P, or of as many; with some of these currents 669.5 kW come out.
+fn give_cable(dice: &mut Dice, o: &mut Opening, kilowatts: u64) {
+    let any = current(dice);
+    o.amperes = dice.pick(&[2, 26, 103, 1_339, any, any, any, any]);
+    o.cosine = dice.pick(&[0, 125, 899, 900, 1_000]);
+    o.phases = dice.pick(&[1, 3]);
+    let volts = if dice.percent(50) { least_volts(o, kilowatts) } else { least_volts(o, kilowatts + 1) - 1 };
+    o.volts = volts.clamp(1, 250_000);
+}
+
+/// The least volts with which the cable has that power or more, one above their limit where none have.
+fn least_volts(o: &Opening, kilowatts: u64) -> u32 {
+    let (mut below, mut least) = (0, 250_001);
+    while least - below > 1 {
+        let volts = (below + least) / 2;
+        let is_enough = cable_formula(o.amperes, volts, o.cosine, o.phases, 1) >= kilowatts;
+        *(if is_enough { &mut least } else { &mut below }) = volts;
+    }
+    least
 }
 
 fn spoil_unused(dice: &mut Dice, o: &mut Opening) {
@@ -85,10 +156,13 @@ fn spoil_unused(dice: &mut Dice, o: &mut Opening) {
     }
 }
 
-/// An opening with one to three arguments outside their limits, most by one.
+/// An opening that is refused: with one to three arguments outside their limits, most by one, or with a big load at an
+/// integral meter, or with both.
 pub fn bad_opening(dice: &mut Dice) -> Opening {
-    let mut opening = opening(dice);
-    for _ in 0..dice.from_to(1, 3) {
+    let big = dice.percent(50);
+    let mut opening = if big { big_opening(dice) } else { opening(dice) };
+    let spoiled = if big { dice.pick(&[0, 0, 1, 2]) } else { dice.from_to(1, 3) };
+    for _ in 0..spoiled {
         spoil_opening(dice, &mut opening);
     }
     opening
@@ -107,11 +181,15 @@ fn spoil_opening(dice: &mut Dice, o: &mut Opening) {
         8 => (o.basis, o.cosine) = (3, dice.pick(&[1_001, MOST])),
         9 => (o.basis, o.phases) = (3, dice.pick(&[0, 2, 4, MOST])),
         10 => (o.basis, o.currents) = (2, Vec::new()),
-        11 => (o.basis, o.currents) = (2, vec![5; dice.pick(&[65, 66, 200])]),
+        11 => {
+            (o.basis, o.currents) = (2, vec![5; dice.pick(&[65, 66, 200])]);
+            o.power = dice.pick(&[o.power, 1_000_000]); // of which a share is a big load
+        }
         12 | 13 if !o.currents.is_empty() => {
             let at = dice.below(o.currents.len() as u64) as usize;
             o.basis = 2;
             o.currents[at] = dice.pick(&[0, 2_001, MOST]);
+            o.power = dice.pick(&[o.power, 1_000_000]);
         }
         _ => (o.basis, o.place) = (2, dice.pick(&[o.currents.len() as u32, 64, MOST])),
     }

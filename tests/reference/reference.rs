@@ -1,5 +1,6 @@
 // Reference program for document 01, "Estimated consumption at a delivery point", and
-// request E2 of document 02, "The odd kWh drifts to the month's end".
+// requests E2, "The odd kWh drifts to the month's end", and E3, "No integral meter on big loads",
+// of document 02.
 //
 // Two accounts of the specification stand here side by side:
 //   point  a record and a store of 10,416 words, changed call by call;
@@ -63,6 +64,8 @@ pub mod rules {
     pub const ROW: usize = 744;
     /// The limit of an hour read, of a power, and (times T) of a volume.
     pub const MILLION: u64 = 1_000_000;
+    /// The least P of a big load: "670 kW or more" (02, E3).
+    pub const BIG_LOAD: u64 = 670;
 
     // ---- Months ----
 
@@ -310,6 +313,12 @@ pub mod rules {
             } else {
                 self.power as u64
             }
+        }
+
+        /// "Network firms no longer accept an integral billing meter where P is 670 kW or more."
+        /// (02, E3; reading 26) A record opened earlier may have such a contract.
+        pub fn is_big_integral(&self) -> bool {
+            self.billing == 2 && self.kilowatts() >= BIG_LOAD
         }
     }
 
@@ -691,7 +700,7 @@ pub mod point {
         }
     }
 
-    // ---- Opening: 1, 10 to 14 ----
+    // ---- Opening: 1, 10 to 15 ----
 
     /// "Opening clears the store; the point is in service, the named month is open, all else is 0
     /// or missing." "An opening refused returns a record of zeros, not open".
@@ -719,7 +728,10 @@ pub mod point {
         refuse_if(o.basis == 3 && !cable, 13)?;
         // "14 on basis 2, list empty or above 64, a current outside 1 to 2,000, or place outside
         // the list"
-        refuse_if(o.basis == 2 && !list_is_sound(&o.currents, o.place), 14)
+        refuse_if(o.basis == 2 && !list_is_sound(&o.currents, o.place), 14)?;
+        // "Such an opening is turned down; 669 passes. Records opened earlier go on, so the check
+        // is made at opening only. (New: 15, after 14.)" (02, E3; readings 26 and 27)
+        refuse_if(Contract::from_opening(o).is_big_integral(), 15)
     }
 
     fn list_is_sound(currents: &[u32], place: u32) -> bool {
@@ -2018,6 +2030,163 @@ mod tests {
         refuses_opening(list(vec![1, 1], 2), 14);
     }
 
+    // ---- Number 15: no integral billing meter on big loads (02, E3) ----
+
+    /// Asserts that this P passes with an interval billing meter, and with an integral one where
+    /// it is below 670 and else not, whatever the control meter.
+    fn asks_for_power(opening: &Opening, kilowatts: u64) {
+        for control in 0..=2 {
+            let with = |billing| Opening { billing, control, ..opening.clone() };
+            assert_eq!(Contract::from_opening(&with(2)).kilowatts(), kilowatts, "{opening:?}");
+            let (mut record, mut store) = (Record::default(), vec![9; STORE]);
+            ok(point::open(&mut record, &mut store, &with(1)));
+            if kilowatts >= 670 {
+                refuses_opening(with(2), 15);
+            } else {
+                ok(point::open(&mut record, &mut store, &with(2)));
+                assert_eq!(record.contract, Contract::from_opening(&with(2)));
+            }
+        }
+    }
+
+    #[test]
+    fn number_15_agreed_power() {
+        for power in [1, 668, 669, 670, 671, 999_999, 1_000_000] {
+            asks_for_power(&Opening { power, ..contract_of_40_kw(1, 0) }, power as u64);
+        }
+    }
+
+    /// P of one point of a list, in January 2023.
+    fn one_of_list(power: u32, currents: &[u32], place: u32) -> Opening {
+        Opening { basis: 2, currents: currents.to_vec(), place, power, ..contract_of_40_kw(1, 0) }
+    }
+
+    /// The share is compared and not the agreed power. Of 1,339 kW by 1, 1 the first place has
+    /// 669.5 rounded half up, and the second what is left.
+    #[test]
+    fn number_15_share_of_power() {
+        let shares: [(u32, &[u32], u32, u64); 10] = [
+            (1_339, &[1, 1], 0, 670),
+            (1_339, &[1, 1], 1, 669),
+            (1_338, &[1, 1], 0, 669),
+            (1_340, &[1, 1], 1, 670),
+            (669, &[7], 0, 669),
+            (670, &[7], 0, 670),
+            (1_000_000, &[1, 1_999], 0, 500),
+            (1_000_000, &[1, 1_999], 1, 999_500),
+            (1_000_000, &[1, 2_000, 2_000], 0, 250),
+            (1_000_000, &[1, 2_000, 2_000], 2, 499_875),
+        ];
+        for (power, currents, place, kilowatts) in shares {
+            asks_for_power(&one_of_list(power, currents, place), kilowatts);
+        }
+        asks_for_power(&one_of_list(1, &[1, 1, 1, 1], 3), 0);
+    }
+
+    fn by_cable(amperes: u32, volts: u32, cosine: u32, phases: u32) -> Opening {
+        Opening { basis: 3, amperes, volts, cosine, phases, ..contract_of_40_kw(1, 0) }
+    }
+
+    /// "P on basis 3 is the formula at t = 1", rounded half up: 669.5 is 670.
+    #[test]
+    fn number_15_cable() {
+        let cables = [
+            (by_cable(2, 167_374, 1_000, 3), 669), // 669.496
+            (by_cable(2, 167_375, 1_000, 3), 670), // 669.5
+            (by_cable(6, 167_374, 1_000, 1), 669), // 669.496
+            (by_cable(6, 167_375, 1_000, 1), 670), // 669.5
+            (by_cable(1_339, 250, 1_000, 3), 670), // 669.5
+            (by_cable(8, 46_493, 0, 3), 669),      // 669.4992, c counts as 900
+            (by_cable(5, 74_389, 0, 3), 670),      // 669.501
+            (by_cable(5, 74_389, 900, 3), 670),
+            (by_cable(1_338, 250, 1_000, 3), 669), // 669
+            (by_cable(1_340, 250, 1_000, 3), 670), // 670
+            (by_cable(1, 1, 1, 1), 0),
+            (by_cable(2_000, 250_000, 1_000, 3), 1_000_000),
+        ];
+        for (opening, kilowatts) in cables {
+            asks_for_power(&opening, kilowatts);
+            // "fields that the basis doesn't use": no agreed power counts here (reading 9).
+            asks_for_power(&Opening { power: 1_000_000, ..opening }, kilowatts);
+        }
+        let unused = by_cable(2_000, 250_000, 1_000, 3);
+        asks_for_power(&Opening { basis: 1, power: 669, ..unused }, 669);
+    }
+
+    /// "(New: 15, after 14.)" and "The lowest number that applies is returned."
+    #[test]
+    fn number_15_comes_last() {
+        let big = Opening { power: 1_000_000, ..contract_of_40_kw(2, 2) };
+        refuses_opening(big.clone(), 15);
+        let (mut record, mut short) = (Record::default(), vec![9; STORE - 1]);
+        assert_eq!(point::open(&mut record, &mut short, &big), Err(1));
+        refuses_opening(Opening { year: 3000, ..big.clone() }, 10);
+        refuses_opening(Opening { month: 13, ..big.clone() }, 10);
+        refuses_opening(Opening { control: 3, ..big.clone() }, 11);
+        refuses_opening(Opening { billing: 3, ..big.clone() }, 11);
+        refuses_opening(Opening { basis: 4, ..big.clone() }, 12);
+        refuses_opening(Opening { power: 1_000_001, ..big.clone() }, 12);
+        let integral = |opening: Opening| Opening { billing: 2, ..opening };
+        refuses_opening(integral(by_cable(2_000, 250_001, 1_000, 3)), 13);
+        refuses_opening(integral(by_cable(2_000, 250_000, 1_001, 3)), 13);
+        refuses_opening(integral(by_cable(2_000, 250_000, 1_000, 2)), 13);
+        refuses_opening(integral(one_of_list(1_000_000, &[1; 65], 0)), 14);
+        refuses_opening(integral(one_of_list(1_000_000, &[1, 2_001], 0)), 14);
+        refuses_opening(integral(one_of_list(1_000_000, &[1, 2_001], 1)), 14);
+        refuses_opening(integral(one_of_list(1_000_000, &[1, 0], 0)), 14);
+        refuses_opening(integral(one_of_list(1_000_000, &[1, 1], 2)), 14);
+    }
+
+    /// "Records opened earlier go on": record and store of a point that was opened earlier, by an
+    /// opening that 15 turns down. They are those of an interval meter but for the meter's kind.
+    fn opened_earlier(opening: &Opening) -> (Record, Vec<u32>) {
+        let (mut record, mut store) = (Record::default(), vec![9; STORE]);
+        ok(point::open(&mut record, &mut store, &Opening { billing: 1, ..opening.clone() }));
+        record.contract.billing = 2;
+        assert_eq!(record.contract, Contract::from_opening(opening));
+        refuses_opening(opening.clone(), 15);
+        (record, store)
+    }
+
+    /// One of each basis: 1,000 kW, 999,500 kW and 1,000,000 kW.
+    fn big_integral_openings() -> [Opening; 3] {
+        let agreed = Opening { power: 1_000, ..contract_of_40_kw(2, 0) };
+        let list = Opening { billing: 2, ..one_of_list(1_000_000, &[1, 1_999], 1) };
+        let cable = Opening { billing: 2, ..by_cable(2_000, 250_000, 1_000, 3) };
+        [agreed, list, cable]
+    }
+
+    #[test]
+    fn records_opened_earlier_close() {
+        let volumes = [(8, 744_000), (8, 743_628_000), (9, 744_000_000)];
+        for (opening, (ground, without)) in big_integral_openings().iter().zip(volumes) {
+            let (mut record, mut store) = opened_earlier(opening);
+            assert!(point::record_is_sound(&record));
+            ok(point::billing_volume(&mut record, &mut store, 1_000_000));
+            assert_eq!(close_plainly(&mut record, &mut store).ground, 2);
+            // January is even: its first 672 hours have 1,000,000 × 672/744 rounded half up.
+            let february = close_plainly(&mut record, &mut store);
+            assert_eq!((february.ground, february.volume), (7, 903_226));
+            ok(point::denial(&mut record, &mut store));
+            ok(point::denial(&mut record, &mut store));
+            let march = close_plainly(&mut record, &mut store);
+            assert_eq!((march.ground, march.volume), (ground, without));
+        }
+    }
+
+    /// Their book goes on too, from the opening as it was made (reading 27).
+    #[test]
+    fn books_of_records_opened_earlier_agree() {
+        let (mut dice, mut grounds) = (Dice(670), [0; 10]);
+        for round in 0..60 {
+            let opening = &big_integral_openings()[round % 3];
+            let opening = Opening { control: dice.below(3) as u32, ..opening.clone() };
+            play_random_history(&mut dice, &opening, opened_earlier(&opening), &mut grounds);
+        }
+        // Ground 6 is not asked for: with so big a P it seldom comes up.
+        assert!([2, 3, 4, 5, 7, 8, 9].iter().all(|ground| grounds[*ground] > 0), "{grounds:?}");
+    }
+
     #[test]
     fn numbers_20_to_24_readings() {
         let (mut record, mut store) = opened(1, 2);
@@ -2200,11 +2369,14 @@ mod tests {
         rows
     }
 
-    fn play_random_history(dice: &mut Dice, grounds: &mut [u32; 10]) {
-        let opening = any_opening(dice);
-        let (mut record, mut store) = (Record::default(), vec![9; STORE]);
-        ok(point::open(&mut record, &mut store, &opening));
-        let (mut book, mut handed_out) = (Book::new(&opening), 0);
+    /// Plays calls on the record and store that the opening left, and holds them against its book.
+    fn play_random_history(
+        dice: &mut Dice,
+        opening: &Opening,
+        (mut record, mut store): (Record, Vec<u32>),
+        grounds: &mut [u32; 10],
+    ) {
+        let (mut book, mut handed_out) = (Book::new(opening), 0);
         for _ in 0..300 {
             let call = any_call(dice, &record);
             let before = (record.clone(), store.clone());
@@ -2227,14 +2399,17 @@ mod tests {
             assert!(point::record_is_sound(&record));
             assert_eq!(record.total, handed_out);
         }
-        assert_eq!(store[..744 * 12], expected_rows(&opening, &book).concat()[..]);
+        assert_eq!(store[..744 * 12], expected_rows(opening, &book).concat()[..]);
     }
 
     #[test]
     fn random_histories_agree() {
         let (mut dice, mut grounds) = (Dice(2_023), [0; 10]);
         for _ in 0..200 {
-            play_random_history(&mut dice, &mut grounds);
+            let opening = any_opening(&mut dice);
+            let (mut record, mut store) = (Record::default(), vec![9; STORE]);
+            ok(point::open(&mut record, &mut store, &opening));
+            play_random_history(&mut dice, &opening, (record, store), &mut grounds);
         }
         assert!(grounds[1..].iter().all(|count| *count > 0), "{grounds:?}");
         println!("closings by ground 1 to 9: {:?}", &grounds[1..]);
