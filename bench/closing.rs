@@ -71,10 +71,13 @@ fn january_marks(random: &mut Random) -> Vec<u8> {
 }
 
 // A point in January 2024 after an opening and the year 2023, and what has to be different in the record for the ground.
+// It is opened with an interval billing meter, since an opening takes an integral one up to 669 kW only, and then has the
+// meter that is asked for, as a record that was opened earlier has.
 fn case(name: &'static str, ground: u32, asked: Contract, change: fn(&mut Record)) -> Case {
     let mut random = Random(20_240_101);
     let mut store = vec![9; STORE];
-    let mut record = open_point(asked, JANUARY, &mut store).after;
+    let mut record = open_point(Contract { billing: 1, ..asked }, JANUARY, &mut store).after;
+    record.contract.billing = asked.billing;
     for month in 1..=12 {
         let date = Date { year: 2023, month };
         load(&mut random, &mut store[ROW * (month as usize - 1)..][..date.hours()]);

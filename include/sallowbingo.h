@@ -7,8 +7,9 @@
  * different points may run at the same time, each with an hour buffer of its own;
  * the calls on one point come one after another.
  *
- * Volumes are whole kWh and powers whole kW. 'Document 01' is the specification;
- * T is the hours of the open month, 24 times its days. */
+ * Volumes are whole kWh and powers whole kW. 'Document 01' is the specification
+ * with requests E2 and E3 of document 02; T is the hours of the open month, 24
+ * times its days. */
 #ifndef SALLOWBINGO_H
 #define SALLOWBINGO_H
 
@@ -28,6 +29,9 @@ extern "C" {
 /* An agreed power in kW. */
 #define SALLOWBINGO_POWER_MIN 1u
 #define SALLOWBINGO_POWER_MAX 1000000u
+
+/* P in kW, the point's own power, at an opening with an integral billing meter. */
+#define SALLOWBINGO_INTEGRAL_POWER_MAX 669u
 
 /* The points that share an agreed power. */
 #define SALLOWBINGO_POINTS_MIN 1u
@@ -151,6 +155,9 @@ typedef enum sallowbingo_refusal {
     /* On basis 2 the list is empty or above SALLOWBINGO_POINTS_MAX, a current is
      * outside the limits of amperes, or the place is outside the list. */
     SALLOWBINGO_REFUSAL_CURRENTS = 14,
+    /* The billing meter is integral and P, the point's own power, is above
+     * SALLOWBINGO_INTEGRAL_POWER_MAX. */
+    SALLOWBINGO_REFUSAL_INTEGRAL_METER = 15,
 
     /* Meter readers. */
 
@@ -400,8 +407,9 @@ uint32_t sallowbingo_month_days(uint64_t year, uint64_t month);
  *
  * Every pointer is aligned for its type and valid for the length that is lent
  * with it, and the arrays that are lent to one call do not overlap. With length 0
- * a pointer may be null. The store before an opening and the hour buffer before a
- * closing may hold anything.
+ * a pointer may be null. One list is excepted: the currents of an opening whose
+ * basis is not 2 may be any pointer with any length. The store before an opening
+ * and the hour buffer before a closing may hold anything.
  *
  * The lowest number that applies is returned. A refused call leaves every array
  * as it was and answers the record given, with figures 0; a refused opening
@@ -414,9 +422,16 @@ uint32_t sallowbingo_month_days(uint64_t year, uint64_t month);
  * one word a point, and place is the point's own in that list, counted from 0:
  * the points up to any one have together the whole kW nearest to what is theirs,
  * and of two equally near the greater.
- * The other bases don't look at currents and place.
+ * Where the basis is not 2, and also where it is no basis, currents, points and
+ * place are not looked at. They may be anything then: the pointer may point
+ * nowhere or be out of alignment, whatever number of points stands beside it.
+ * With an integral billing meter P is at most SALLOWBINGO_INTEGRAL_POWER_MAX. P
+ * is the point's own: on basis 1 the agreed power, on basis 2 the point's share
+ * of it, on basis 3 what sallowbingo_cable_formula gives for 1 hour. The opening
+ * alone looks at this. A record with an integral billing meter and a greater P
+ * that was opened earlier goes on, and no other call refuses it for that.
  * Refusals: 1 STORE_LENGTH, 10 OPENING_MONTH, 11 METER_KIND, 12 BASIS,
- * 13 CABLE_VALUE, 14 CURRENTS. */
+ * 13 CABLE_VALUE, 14 CURRENTS, 15 INTEGRAL_METER. */
 sallowbingo_answer sallowbingo_open_point(sallowbingo_contract asked, sallowbingo_date date, const uint32_t *currents,
                                           size_t points, size_t place, uint32_t *store, size_t words);
 

@@ -3,7 +3,7 @@
 //! A point is opened on its contract. Readings, failures, admissions, denials of access and permissions come in, and
 //! each month is closed, each as one call on a [`Record`] and a store of [`STORE`] words that the caller keeps. A
 //! closing gives the hours and its [`Figures`]. The rules and the numbers are those of the specification
-//! *Estimated consumption at a delivery point*, called document 01 here.
+//! *Estimated consumption at a delivery point* with requests E2 and E3 of document 02, called document 01 here.
 //!
 //! Nothing has to be checked beforehand: arguments are plain numbers and slices of any length, a call that document 01
 //! refuses gives its [`Refusal`], and a refused call leaves record, store and hour buffer as they were. Nothing is

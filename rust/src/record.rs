@@ -18,7 +18,26 @@ pub struct Record(pub(crate) raw::Record);
 /// agreed one. On the second it is shared by the currents of the points' cables, and `place` is the point's place in
 /// that list, counted from 0: the points up to any one have together the whole kW nearest to what is theirs, and of two
 /// equally near the greater. What the basis does not use is ignored, and what the store held too. Refused with 1 and
-/// 10 to 14.
+/// 10 to 15.
+///
+/// An integral billing meter is accepted up to a P of 669 kW. P is the point's own: the agreed power, its share of it,
+/// or what [`cable_formula`](crate::cable_formula) gives for 1 hour. Only an opening looks at this: a record that was
+/// opened earlier goes on with any P.
+///
+/// ```
+/// use sallowbingo::{basis, meter, open, Contract, Date, Kw, Refusal, STORE};
+///
+/// let mut store = [0; STORE];
+/// let mut opened = |billing, power, place| {
+///     let contract = Contract { billing, basis: basis::SHARED, power: Kw(power), ..Contract::default() };
+///     open(contract, Date { year: 2024, month: 2 }, &[100, 100], place, &mut store).map(drop)
+/// };
+///
+/// // 1,339 kW for two equal cables: 670 for the first and 669 for the second.
+/// assert_eq!(opened(meter::INTEGRAL, 1_339, 0), Err(Refusal::IntegralMeter));
+/// assert_eq!(opened(meter::INTEGRAL, 1_339, 1), Ok(()));
+/// assert_eq!(opened(meter::INTERVAL, 1_339, 0), Ok(()));
+/// ```
 pub fn open(
     contract: Contract,
     date: Date,

@@ -6,6 +6,7 @@ use core::fmt;
 /// Why a call was refused, with the number of document 01.
 ///
 /// Where several apply, a call answers the lowest. A refused call leaves record, store and hour buffer as they were.
+/// A request of the customer may bring numbers, so a `match` has an arm for others.
 ///
 /// ```
 /// use sallowbingo::Refusal;
@@ -18,6 +19,7 @@ use core::fmt;
 /// ```
 #[derive(Clone, Copy, Debug, PartialEq, Eq, PartialOrd, Ord, Hash)]
 #[repr(u32)]
+#[non_exhaustive]
 pub enum Refusal {
     /// The store has not 10,416 words.
     StoreLength = 1,
@@ -40,6 +42,9 @@ pub enum Refusal {
     CableValue = 13,
     /// At an opening on basis 2: not 1 to 64 currents, a current not 1 to 2,000, or a place outside the list.
     Currents = 14,
+    /// At an opening: an integral billing meter, and a P of 670 kW or more, which is the point's own: on basis 2 its
+    /// share, on basis 3 the cable formula at 1 hour.
+    IntegralMeter = 15,
 
     /// At a reading: the contract has no such meter, or one of the other form, or the neighbour's source is not 1 or 2.
     NoSuchMeter = 20,
@@ -79,7 +84,7 @@ pub enum Refusal {
 
 impl Refusal {
     /// All refusals, from the lowest number to the highest.
-    pub const ALL: [Refusal; 24] = [
+    pub const ALL: [Refusal; 25] = [
         Refusal::StoreLength,
         Refusal::Record,
         Refusal::CalendarOver,
@@ -88,6 +93,7 @@ impl Refusal {
         Refusal::Basis,
         Refusal::CableValue,
         Refusal::Currents,
+        Refusal::IntegralMeter,
         Refusal::NoSuchMeter,
         Refusal::BillingBarred,
         Refusal::AlreadyGiven,
@@ -127,6 +133,7 @@ impl Refusal {
             Refusal::Basis => "the basis is not 1 to 3, or on basis 1 or 2 the power is not 1 to 1,000,000",
             Refusal::CableValue => "a value of the cable is outside its limits",
             Refusal::Currents => "the list of currents is empty, too long or holds a wrong current, or lacks the place",
+            Refusal::IntegralMeter => "an integral billing meter is not accepted where P is 670 kW or more",
             Refusal::NoSuchMeter => {
                 "the point has no meter for such a reading, or the neighbour's source is not 1 or 2"
             }

@@ -35,18 +35,6 @@ static void mark(size_t day, size_t first, size_t peaks, size_t capacity) {
     marks[24 * day + capacity] |= 2;
 }
 
-static sallowbingo_contract shared(uint32_t billing, uint32_t control, uint32_t power) {
-    sallowbingo_contract c = agreed(billing, control, power);
-    c.basis = 2;
-    return c;
-}
-
-static sallowbingo_contract cabled(uint32_t billing, uint32_t control, sallowbingo_cable cable) {
-    sallowbingo_contract c = agreed(billing, control, 0);
-    c.basis = 3, c.cable = cable;
-    return c;
-}
-
 static record holding(record r, uint32_t year, uint32_t month) {
     r.past.years[month - 1] = year;
     return r;

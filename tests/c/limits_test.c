@@ -47,8 +47,21 @@ static void power(void) {
     CHECK(asked(agreed(1, 0, SALLOWBINGO_POWER_MAX + 1)) == REFUSED_AS(BASIS));
 }
 
+/* With an integral billing meter. An interval one takes more. */
+static void integral_power(void) {
+    const uint32_t interval = SALLOWBINGO_METER_INTERVAL, integral = SALLOWBINGO_METER_INTEGRAL;
+    CHECK(asked(agreed(integral, 0, SALLOWBINGO_INTEGRAL_POWER_MAX)) == ACCEPTED);
+    CHECK(asked(agreed(integral, 0, SALLOWBINGO_INTEGRAL_POWER_MAX + 1)) == REFUSED_AS(INTEGRAL_METER));
+    CHECK(asked(agreed(integral, 0, SALLOWBINGO_POWER_MAX)) == REFUSED_AS(INTEGRAL_METER));
+    CHECK(asked(agreed(interval, integral, SALLOWBINGO_INTEGRAL_POWER_MAX + 1)) == ACCEPTED);
+    CHECK(SALLOWBINGO_INTEGRAL_POWER_MAX == 669 && REFUSED_AS(INTEGRAL_METER) == 15); /* as document 02 has them */
+    record r = opened(agreed(integral, 0, 1));
+    r.contract.power.kw = SALLOWBINGO_POWER_MAX;
+    CHECK(sallowbingo_read_billing_volume(r, store, SALLOWBINGO_STORE, kwh(1)).refusal == ACCEPTED);
+}
+
 /* An opening on a share of a power, among so many points with that current. */
-static uint32_t shared(size_t points, uint32_t amperes) {
+static uint32_t in_list(size_t points, uint32_t amperes) {
     uint32_t currents[SALLOWBINGO_POINTS_MAX + 1];
     for (size_t k = 0; k < COUNT(currents); k++) currents[k] = amperes;
     sallowbingo_contract c = agreed(1, 0, 100);
@@ -57,12 +70,12 @@ static uint32_t shared(size_t points, uint32_t amperes) {
 }
 
 static void points(void) {
-    CHECK(shared(SALLOWBINGO_POINTS_MIN, SALLOWBINGO_AMPERES_MIN) == ACCEPTED);
-    CHECK(shared(SALLOWBINGO_POINTS_MIN - 1, SALLOWBINGO_AMPERES_MIN) == REFUSED_AS(CURRENTS));
-    CHECK(shared(SALLOWBINGO_POINTS_MAX, SALLOWBINGO_AMPERES_MAX) == ACCEPTED);
-    CHECK(shared(SALLOWBINGO_POINTS_MAX + 1, SALLOWBINGO_AMPERES_MAX) == REFUSED_AS(CURRENTS));
-    CHECK(shared(SALLOWBINGO_POINTS_MAX, SALLOWBINGO_AMPERES_MAX + 1) == REFUSED_AS(CURRENTS));
-    CHECK(shared(SALLOWBINGO_POINTS_MAX, SALLOWBINGO_AMPERES_MIN - 1) == REFUSED_AS(CURRENTS));
+    CHECK(in_list(SALLOWBINGO_POINTS_MIN, SALLOWBINGO_AMPERES_MIN) == ACCEPTED);
+    CHECK(in_list(SALLOWBINGO_POINTS_MIN - 1, SALLOWBINGO_AMPERES_MIN) == REFUSED_AS(CURRENTS));
+    CHECK(in_list(SALLOWBINGO_POINTS_MAX, SALLOWBINGO_AMPERES_MAX) == ACCEPTED);
+    CHECK(in_list(SALLOWBINGO_POINTS_MAX + 1, SALLOWBINGO_AMPERES_MAX) == REFUSED_AS(CURRENTS));
+    CHECK(in_list(SALLOWBINGO_POINTS_MAX, SALLOWBINGO_AMPERES_MAX + 1) == REFUSED_AS(CURRENTS));
+    CHECK(in_list(SALLOWBINGO_POINTS_MAX, SALLOWBINGO_AMPERES_MIN - 1) == REFUSED_AS(CURRENTS));
 }
 
 static sallowbingo_contract on_cable(uint32_t amperes, uint32_t volts, uint32_t cosine, uint32_t phases) {
@@ -295,6 +308,7 @@ static void grounds(void) {
 int main(void) {
     calendar();
     power();
+    integral_power();
     points();
     cable();
     kinds();

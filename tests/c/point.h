@@ -55,6 +55,19 @@ static inline sallowbingo_contract agreed(uint32_t billing, uint32_t control, ui
     return c;
 }
 
+/* The contract on basis 2, with the agreed power or in a record the share, and on basis 3. */
+static inline sallowbingo_contract shared(uint32_t billing, uint32_t control, uint32_t power) {
+    sallowbingo_contract c = agreed(billing, control, power);
+    c.basis = 2;
+    return c;
+}
+
+static inline sallowbingo_contract cabled(uint32_t billing, uint32_t control, sallowbingo_cable cable) {
+    sallowbingo_contract c = agreed(billing, control, 0);
+    c.basis = 3, c.cable = cable;
+    return c;
+}
+
 static inline sallowbingo_date on(uint32_t year, uint32_t month) { return (sallowbingo_date){year, month}; }
 static inline sallowbingo_kwh kwh(uint64_t v) { return (sallowbingo_kwh){v}; }
 

@@ -1,7 +1,7 @@
 /* The calls on a point through C. Short histories worked out by hand from document 01, one with interval meters and one
  * with integral ones, and readings at the limits of each length of month; then bad input: stores of other lengths, records
  * of any bits, hours of any length and value, any number for year, month, kind, basis, reason, source and volume. Each
- * gives a number of document 01, the record as given and the store as it was. */
+ * gives a number of document 01, or 15 of document 02, the record as given and the store as it was. */
 #include "point.h"
 
 #include <stddef.h>
@@ -223,6 +223,156 @@ static void list_refused(void) {
     REFUSED(14, c, on(2023, 2), list + 4, 2, 0, SALLOWBINGO_STORE);
     REFUSED(14, c, on(2023, 2), long_list, 65, 0, SALLOWBINGO_STORE);
     REFUSED(14, c, on(2023, 2), long_list, 64, 64, SALLOWBINGO_STORE);
+}
+
+/* E3 OF DOCUMENT 02. With an integral billing meter an opening takes a P of 669 and refuses one of 670 with 15. Here P
+ * has three ways to come about, and each opening finds a full store, which a refused one leaves full. */
+
+/* Basis 1: P is the agreed power. An interval billing meter takes any; the control meter makes no difference. */
+static void integral_agreed(void) {
+    static const uint32_t taken[] = {1, 668, 669}, not_taken[] = {670, 671, 1339, 65536 + 669, 999999, 1000000};
+    for (uint32_t control = 0; control <= 2; control++) {
+        for (size_t k = 0; k < COUNT(taken); k++) {
+            sallowbingo_contract integral = agreed(2, control, taken[k]), interval = agreed(1, control, taken[k]);
+            CHECK(opens(integral, NULL, 0, 0, integral) && opens(interval, NULL, 0, 0, interval));
+        }
+        for (size_t k = 0; k < COUNT(not_taken); k++) {
+            sallowbingo_contract interval = agreed(1, control, not_taken[k]);
+            CHECK(opens(interval, NULL, 0, 0, interval));
+            fill_store();
+            REFUSED(15, agreed(2, control, not_taken[k]), on(2023, 2), NULL, 0, 0, SALLOWBINGO_STORE);
+        }
+    }
+}
+
+/* A share is accepted and kept with an interval billing meter, and with an integral one too where it is at most 669, and
+ * is refused where it is more; each with every control meter. */
+static int shares(uint32_t power, const uint32_t *list, size_t points, size_t place, uint32_t share) {
+    int right = 1;
+    for (uint32_t control = 0; control <= 2; control++) {
+        right &= opens(shared(1, control, power), list, points, place, shared(1, control, share));
+        fill_store();
+        sallowbingo_contract asked = shared(2, control, power);
+        answer a = sallowbingo_open_point(asked, on(2023, 2), list, points, place, store, SALLOWBINGO_STORE);
+        record kept = fresh(shared(2, control, share), 2023, 2);
+        right &= share <= 669 ? accepted(a, kept) && cleared() : refused(a, 15, zeros());
+    }
+    return right;
+}
+
+/* Basis 2: P is the point's share, so neither the agreed power nor another point's share. */
+static void integral_shared(void) {
+    static const uint32_t equal[64] = {[0 ... 63] = 7}, unequal[] = {1, 2000};
+    CHECK(shares(669, equal, 1, 0, 669) && shares(670, equal, 1, 0, 670)); /* a list of one has it all */
+    /* 1,339 by 1, 1: the running sums 669.5 and 1,339 are rounded 670 and 1,339, so 670 and 669 */
+    CHECK(shares(1339, equal, 2, 0, 670));
+    CHECK(shares(1339, equal, 2, 1, 669));
+    CHECK(shares(1338, equal, 2, 0, 669) && shares(1338, equal, 2, 1, 669));
+    CHECK(shares(1340, equal, 2, 0, 670) && shares(1340, equal, 2, 1, 670));
+    /* 2,008 by 1, 1, 1: 669.33, 1,338.67 and 2,008 are rounded 669, 1,339 and 2,008, so 669, 670 and 669 */
+    CHECK(shares(2008, equal, 3, 0, 669));
+    CHECK(shares(2008, equal, 3, 1, 670));
+    CHECK(shares(2008, equal, 3, 2, 669));
+    /* 42,817 by 64 equal ones: 669 and a 64th each; the 64ths reach a half at place 31, which gets the odd kW */
+    CHECK(shares(42817, equal, 64, 30, 669) && shares(42817, equal, 64, 32, 669));
+    CHECK(shares(42817, equal, 64, 0, 669) && shares(42817, equal, 64, 63, 669));
+    CHECK(shares(42817, equal, 64, 31, 670));
+    /* the greatest power by 1 and 2,000: 1,000,000 / 2,001 = 499.75, rounded 500, and 999,500 for the other */
+    CHECK(shares(1000000, unequal, 2, 0, 500));
+    CHECK(shares(1000000, unequal, 2, 1, 999500));
+    CHECK(shares(1000000, equal, 1, 0, 1000000));
+    CHECK(shares(1, equal, 2, 1, 0)); /* a share of 0 */
+}
+
+/* A cable is kept as given, with that billing meter and each control meter; the power asked for is not used. */
+static int on_cable(uint32_t billing, sallowbingo_cable cable, uint32_t asked) {
+    int right = 1;
+    for (uint32_t control = 0; control <= 2; control++) {
+        sallowbingo_contract kept = cabled(billing, control, cable), c = kept;
+        c.power.kw = asked;
+        right &= opens(c, NULL, 0, 0, kept);
+    }
+    return right;
+}
+
+/* Basis 3: P is the formula at t = 1, rounded half up. With three phases it is I × U × c / 500,000, and 669.5 is a
+ * product of 334,750,000; with one phase / 1,500,000 and 1,004,250,000. A missing cosine counts as 900. */
+static void integral_cabled(void) {
+    static const sallowbingo_cable taken[] = {
+        {1338, 250, 1000, 3}, /* 334,500,000: 669 */
+        {31, 64661, 167, 3},  /* 334,749,997: 669.499994, the greatest product below the half */
+        {8, 46493, 0, 3},     /* 8 × 46,493 × 900 = 334,749,600: 669.4992 */
+        {501, 64661, 31, 1},  /* 1,004,249,991: 669.499994, the greatest below it with one phase */
+        {1338, 750, 1000, 1}, /* 1,003,500,000: 669 */
+        {1, 1, 1, 1},         /* 0 */
+    };
+    static const sallowbingo_cable not_taken[] = {
+        {1339, 250, 1000, 3},     /* 334,750,000: 669.5, rounded 670 */
+        {5, 74389, 0, 3},         /* 5 × 74,389 × 900 = 334,750,500: 669.501 */
+        {1340, 250, 1000, 3},     /* 335,000,000: 670 */
+        {1339, 750, 1000, 1},     /* 1,004,250,000: 669.5 */
+        {501, 64661, 31, 3},      /* 1,004,249,991 / 500,000 = 2,008.5 */
+        {2000, 250000, 1000, 1},  /* 333,333.3 */
+        {2000, 250000, 1000, 3},  /* 1,000,000 */
+    };
+    for (size_t k = 0; k < COUNT(taken); k++) {
+        CHECK(on_cable(2, taken[k], 0) && on_cable(2, taken[k], 1000000));
+        CHECK(on_cable(1, taken[k], 0));
+    }
+    for (size_t k = 0; k < COUNT(not_taken); k++) {
+        CHECK(on_cable(1, not_taken[k], 0));
+        fill_store();
+        for (uint32_t control = 0; control <= 2; control++) {
+            sallowbingo_contract c = cabled(2, control, not_taken[k]);
+            REFUSED(15, c, on(2023, 2), NULL, 0, 0, SALLOWBINGO_STORE);
+            c.power.kw = 1;
+            REFUSED(15, c, on(2023, 2), NULL, 0, 9, SALLOWBINGO_STORE);
+        }
+    }
+}
+
+/* On basis 1 neither the cable nor the list has a say in P: the greatest cable, and a list that would halve 1,338. */
+static void integral_unused(void) {
+    static const uint32_t halves[] = {1, 1};
+    sallowbingo_contract c = agreed(2, 1, 669);
+    c.cable = (sallowbingo_cable){2000, 250000, 1000, 3};
+    CHECK(opens(c, NULL, 0, 0, agreed(2, 1, 669)));
+    c = agreed(2, 1, 1338);
+    fill_store();
+    REFUSED(15, c, on(2023, 2), halves, 2, 0, SALLOWBINGO_STORE);
+    c.cable = (sallowbingo_cable){1, 1, 1, 1};
+    REFUSED(15, c, on(2023, 2), halves, 2, 0, SALLOWBINGO_STORE);
+}
+
+/* 15 comes last. Each opening here would be refused with it, were it not for one thing more that is wrong. */
+static void integral_comes_last(void) {
+    static const uint32_t wrong[] = {2000, 0}, high[] = {2000, 2001};
+    static uint32_t long_list[65];
+    for (size_t k = 0; k < COUNT(long_list); k++) long_list[k] = k == 0 ? 2000 : 1;
+    sallowbingo_contract first = agreed(2, 2, 1000000), second = shared(2, 2, 1000000), c;
+    fill_store();
+    REFUSED(1, first, on(2023, 2), NULL, 0, 0, SALLOWBINGO_STORE - 1);
+    REFUSED(10, first, on(2013, 12), NULL, 0, 0, SALLOWBINGO_STORE);
+    REFUSED(10, second, on(2023, 13), long_list, 64, 0, SALLOWBINGO_STORE);
+    REFUSED(11, agreed(2, 3, 670), on(2023, 2), NULL, 0, 0, SALLOWBINGO_STORE);
+    REFUSED(11, agreed(3, 2, 670), on(2023, 2), NULL, 0, 0, SALLOWBINGO_STORE);
+    REFUSED(12, agreed(2, 2, 1000001), on(2023, 2), NULL, 0, 0, SALLOWBINGO_STORE);
+    REFUSED(12, shared(2, 2, 1000001), on(2023, 2), long_list, 64, 0, SALLOWBINGO_STORE);
+    c = first, c.basis = 0, REFUSED(12, c, on(2023, 2), NULL, 0, 0, SALLOWBINGO_STORE);
+    c = first, c.basis = 4, c.cable = (sallowbingo_cable){2000, 250000, 1000, 3};
+    REFUSED(12, c, on(2023, 2), NULL, 0, 0, SALLOWBINGO_STORE);
+    static const sallowbingo_cable bad[] = {{2001, 250000, 1000, 3}, {2000, 250001, 1000, 3}, {2000, 250000, 1001, 3},
+                                            {2000, 250000, 1000, 2}, {UINT32_MAX, UINT32_MAX, UINT32_MAX, 3}};
+    for (size_t k = 0; k < COUNT(bad); k++)
+        REFUSED(13, cabled(2, 0, bad[k]), on(2023, 2), NULL, 0, 0, SALLOWBINGO_STORE);
+    REFUSED(14, second, on(2023, 2), NULL, 0, 0, SALLOWBINGO_STORE);
+    REFUSED(14, second, on(2023, 2), wrong, 2, 0, SALLOWBINGO_STORE);
+    REFUSED(14, second, on(2023, 2), high, 2, 0, SALLOWBINGO_STORE);
+    REFUSED(14, second, on(2023, 2), long_list, 65, 0, SALLOWBINGO_STORE);
+    REFUSED(14, second, on(2023, 2), long_list, 64, 64, SALLOWBINGO_STORE);
+    /* with nothing more wrong, in the calendar's first month and its last */
+    REFUSED(15, first, on(2014, 1), NULL, 0, 0, SALLOWBINGO_STORE);
+    REFUSED(15, second, on(2999, 12), long_list, 64, 0, SALLOWBINGO_STORE);
 }
 
 /* February 2023, T 672, each state by hand: every reading once. */
@@ -493,9 +643,12 @@ static void fields_since(void) {
     }
 }
 
-#define WITHIN(change) r = ready(which), change, CHECK(call(which, r, SALLOWBINGO_STORE).refusal != 2), restore()
+#define WITHIN(change) r = ready(which), change, CHECK(within(which, call(which, r, SALLOWBINGO_STORE))), restore()
 
-/* Each field exactly at its limit: the call may have a refusal of its own, but not 2. */
+static int within(int which, answer a) { return a.refusal != 2 && may_give(which, a.refusal); }
+
+/* Each field exactly at its limit: the call may have a refusal of its own, but not 2. A record may have any P beside an
+ * integral billing meter, and no call refuses it with an opening's number. */
 static void fields_within(void) {
     record r;
     for (int which = 0; which < CALLS; which++) {
@@ -505,6 +658,10 @@ static void fields_within(void) {
         WITHIN((r.contract.basis = 2, r.contract.power.kw = 0));
         WITHIN((r.contract.basis = 3, r.contract.power.kw = 0, r.contract.cable = (sallowbingo_cable){1, 1, 0, 1}));
         WITHIN((r.contract.basis = 3, r.contract.power.kw = 0, r.contract.cable = (sallowbingo_cable){2000, 250000, 1000, 3}));
+        WITHIN(r.contract = agreed(2, 2, 670));
+        WITHIN(r.contract = agreed(2, 2, 1000000));
+        WITHIN(r.contract = shared(2, 1, 1000000));
+        WITHIN(r.contract = cabled(2, 0, (sallowbingo_cable){2000, 250000, 1000, 3}));
         WITHIN(r.date = on(2014, 1));
         WITHIN(r.date = on(2999, 12));
         WITHIN(r.service.run = 12000);
@@ -667,6 +824,11 @@ int main(void) {
     opening_refused();
     basis_refused();
     list_refused();
+    integral_agreed();
+    integral_shared();
+    integral_cabled();
+    integral_unused();
+    integral_comes_last();
     history();
     integral_history();
     each_length();

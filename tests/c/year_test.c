@@ -2,42 +2,12 @@
  * denials and refused calls among them, and twelve closings. The point has an interval billing meter, an integral control
  * meter and an agreed power of 2 kW. The comments work out every expected value from document 01; R is the run plus 1, and
  * at least 3 with two denials. */
-#include "point.h"
+#include "year.h"
 
-#define WORDS SALLOWBINGO_STORE
+enum { POWER = 2 };
 
-enum { YEAR = 2023, POWER = 2, DAY = 24 };
-
-/* What a closing is lent, the hours that it has to hand out, and the hours of an interval meter. */
-static uint8_t marks[HOURS];
-static uint32_t expected[HOURS], metered[HOURS];
-
-/* WHAT THE MONTHS SHARE */
-
-/* No hour is marked or expected, and every word of the buffer is 7, so that a word that a closing leaves is seen. */
-static void begin(void) {
-    memset(marks, SALLOWBINGO_MARK_ORDINARY, sizeof marks);
-    memset(expected, 0, sizeof expected);
-    for (size_t k = 0; k < COUNT(buffer); k++) buffer[k] = 7;
-    remember();
-}
-
-/* The call is accepted without figures, and the record goes on as it left it. */
-static int accepted(answer a, record *r) {
-    *r = a.after;
-    return a.refusal == SALLOWBINGO_REFUSAL_NONE && no_figures(a);
-}
-
-/* Marks peak hours of a day, from one on, and the capacity hour. */
-static void mark(size_t day, size_t first, size_t peaks, size_t capacity) {
-    for (size_t h = first; h < first + peaks; h++) marks[DAY * day + h] |= SALLOWBINGO_MARK_PEAK;
-    marks[DAY * day + capacity] |= SALLOWBINGO_MARK_CAPACITY;
-}
-
-/* The same word in every even hour of so many days, and one in every odd hour. */
-static void fill(uint32_t *hours, size_t days, uint32_t even, uint32_t odd) {
-    for (size_t h = 0; h < DAY * days; h++) hours[h] = h % 2 == 0 ? even : odd;
-}
+/* The hours of an interval meter. */
+static uint32_t metered[HOURS];
 
 /* February's reading, and the past that it is for longer months: 1 in each hour, 3 in hour 9 of each day, 13 in the first
  * hour 9. An hour after February's last is that of seven days before, so the pattern of the days goes on. The first day
@@ -48,47 +18,11 @@ static void by_february(uint32_t *hours, size_t days) {
     hours[9] = 13;
 }
 
-static answer close_month(record r, size_t days) {
-    remember();
-    return sallowbingo_close(r, store, WORDS, marks, DAY * days, buffer, SALLOWBINGO_ROW);
-}
-
-/* The buffer holds the expected hours and 0 after them, and the words past its end are as they were. */
-static int handed_out(void) {
-    return memcmp(buffer, expected, sizeof expected) == 0
-        && memcmp(buffer + HOURS, buffer_was + HOURS, sizeof buffer - sizeof expected) == 0;
-}
-
-/* What a closing gives: ground, month volume, C, d and capacity, and the total and the run that it leaves. */
-typedef struct {
-    uint32_t ground;
-    uint64_t volume, c, d, capacity, total, run;
-} closing;
-
-/* The closing is accepted and gives that, and the hours are those expected. */
-#define CHECK_CLOSED(a, ...)                             \
-    do {                                                 \
-        closing given = __VA_ARGS__;                     \
-        CHECK(a.refusal == SALLOWBINGO_REFUSAL_NONE);    \
-        CHECK(a.figures.ground == given.ground);         \
-        CHECK(a.figures.volume.kwh == given.volume);     \
-        CHECK(a.figures.sum.kwh == given.c);             \
-        CHECK(a.figures.days == given.d);                \
-        CHECK(a.figures.capacity.kw == given.capacity);  \
-        CHECK(a.after.total.kwh == given.total);         \
-        CHECK(a.after.service.run == given.run);         \
-        CHECK(handed_out());                             \
-    } while (0)
-
-/* A row of the store holds those words. */
-static int row_holds(size_t row, const uint32_t *hours) {
-    return memcmp(store + SALLOWBINGO_ROW * row, hours, SALLOWBINGO_ROW * sizeof *hours) == 0;
-}
-
 /* THE YEAR */
 
-/* Openings that are refused, for the month, the meter, the power, the cable, the place in a list of two, and the store;
- * then one that is accepted. The words of the store are 9 before it, so that an opening that left some is seen. */
+/* Openings that are refused, for the month, the meter, the power, the cable, the place in a list of two, the store, and
+ * the power beside an integral billing meter; then one that is accepted. The words of the store are 9 before it, so
+ * that an opening that left some is seen. */
 static record opening(void) {
     static const uint32_t currents[] = {10, 20};
     sallowbingo_contract asked = agreed(SALLOWBINGO_METER_INTERVAL, SALLOWBINGO_METER_INTEGRAL, POWER), wrong = asked;
@@ -108,6 +42,9 @@ static record opening(void) {
     CHECK(refused(sallowbingo_open_point(wrong, january, currents, COUNT(currents), 2, store, WORDS),
                   SALLOWBINGO_REFUSAL_CURRENTS, zeros()));
     CHECK(refused(sallowbingo_open_point(asked, january, NULL, 0, 0, store, WORDS - 1), SALLOWBINGO_REFUSAL_STORE_LENGTH,
+                  zeros()));
+    wrong = asked, wrong.billing = SALLOWBINGO_METER_INTEGRAL, wrong.power.kw = SALLOWBINGO_INTEGRAL_POWER_MAX + 1;
+    CHECK(refused(sallowbingo_open_point(wrong, january, NULL, 0, 0, store, WORDS), SALLOWBINGO_REFUSAL_INTEGRAL_METER,
                   zeros()));
     record r = zeros();
     CHECK(accepted(sallowbingo_open_point(asked, january, NULL, 0, 0, store, WORDS), &r));

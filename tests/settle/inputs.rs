@@ -315,7 +315,7 @@ impl Author<'_> {
 
     fn power_arguments(&mut self) -> Vec<String> {
         let power = match self.dice.below(20) {
-            0 => self.dice.number_of(&[0, 1, 1_000_000, 1_000_001]),
+            0 => self.dice.number_of(&[0, 1, 669, 670, 1_000_000, 1_000_001]),
             1 => 100_000,
             2..=9 => self.dice.from(1, 9),
             _ => self.dice.from(1, 500),

@@ -15,7 +15,7 @@ pub struct Met {
 }
 
 /// The refusals that a history file can reach.
-const REFUSALS: [u64; 21] = [2, 3, 10, 11, 12, 13, 14, 20, 21, 22, 23, 24, 30, 31, 32, 33, 34, 40, 41, 42, 43];
+const REFUSALS: [u64; 22] = [2, 3, 10, 11, 12, 13, 14, 15, 20, 21, 22, 23, 24, 30, 31, 32, 33, 34, 40, 41, 42, 43];
 
 impl Met {
     pub fn input(&mut self, text: &[u8]) {

@@ -1,4 +1,4 @@
-// What `settle --tab` has to print, read from docs/HISTORY-FILE.md, document 01 and request E2 of document 02
+// What `settle --tab` has to print, read from docs/HISTORY-FILE.md, document 01 and requests E2 and E3 of document 02
 // alone. The point itself is the reference's; tokens, grammar, weekdays and the figures of a sheet are worked out
 // here.
 

@@ -45,3 +45,19 @@ fn numbers_beside_the_limits_are_refused() {
         }
     }
 }
+
+/// An opening with an integral billing meter takes a P of 669 at most. A record is not bound by that.
+#[test]
+fn an_integral_meter_does_not_limit_the_power_of_a_record() {
+    let store = vec![0; STORE];
+    let passes = |fields: &str| {
+        let text = format!("opened=1 contract.billing=2 date.year=2023 date.month=1 {fields}");
+        Record::from_numbers(read(&text).unwrap()).unwrap().permit(&store) == Err(Refusal::NoDenial)
+    };
+    for power in [0, 669, 670, 1_000_000] {
+        assert!(passes(&format!("contract.basis=1 contract.power={power}")), "basis 1, {power}");
+        assert!(passes(&format!("contract.basis=2 contract.power={power}")), "basis 2, {power}");
+    }
+    let cable = "contract.cable.amperes=2000 contract.cable.volts=250000 contract.cable.cosine=1000";
+    assert!(passes(&format!("contract.basis=3 {cable} contract.cable.phases=3")));
+}

@@ -3,6 +3,7 @@
 #[path = "../../src/fields.rs"]
 mod fields;
 mod hosts;
+mod integral;
 mod layout;
 mod limits;
 mod numbers;

@@ -4,8 +4,8 @@ use sallowbingo::Refusal::{self, *};
 use std::collections::BTreeSet;
 use std::error::Error;
 
-/// The numbers of document 01.
-const NUMBERS: [(Refusal, u32); 24] = [
+/// The numbers of document 01, and 15 of request E3.
+const NUMBERS: [(Refusal, u32); 25] = [
     (StoreLength, 1),
     (Record, 2),
     (CalendarOver, 3),
@@ -14,6 +14,7 @@ const NUMBERS: [(Refusal, u32); 24] = [
     (Basis, 12),
     (CableValue, 13),
     (Currents, 14),
+    (IntegralMeter, 15),
     (NoSuchMeter, 20),
     (BillingBarred, 21),
     (AlreadyGiven, 22),
@@ -58,4 +59,6 @@ fn each_has_a_sentence_of_its_own() {
 fn shown_with_number_and_sentence() {
     let error: Box<dyn Error> = Box::new(CalendarOver);
     assert_eq!(error.to_string(), "refusal 3: the calendar is over");
+    let sentence = "an integral billing meter is not accepted where P is 670 kW or more";
+    assert_eq!(IntegralMeter.to_string(), format!("refusal 15: {sentence}"));
 }

@@ -8,6 +8,9 @@ type Call = fn(&mut Point) -> Result<(), Refusal>;
 /// A call, what it is made on, and what refuses it.
 type Refused = (Refusal, fn() -> Point, Call);
 
+/// An integral billing meter beside the other's control meter and power.
+const INTEGRAL: Contract = Contract { billing: meter::INTEGRAL, ..AGREED };
+
 /// A point in January 2023 whose row of December 2022 is filled.
 fn interval() -> Point {
     let mut p = Point::open(AGREED, 2022, 12);
@@ -96,7 +99,7 @@ fn ask_in(p: &mut Point, year: u32, month: u32) -> Result<(), Refusal> {
     open(AGREED, Date { year, month }, &[], 0, &mut p.store).map(drop)
 }
 
-const OPENING: [(Refusal, Call); 17] = [
+const OPENING: [(Refusal, Call); 20] = [
     (Refusal::StoreLength, |p| open(AGREED, Date { year: 2023, month: 1 }, &[], 0, &mut p.store[1..]).map(drop)),
     (Refusal::StoreLength, |_| open(AGREED, Date { year: 2023, month: 1 }, &[], 0, &mut []).map(drop)),
     (Refusal::OpeningMonth, |p| ask_in(p, 2013, 12)),
@@ -114,6 +117,11 @@ const OPENING: [(Refusal, Call); 17] = [
     (Refusal::Currents, |p| ask(p, Contract { basis: basis::SHARED, ..AGREED }, &[1; 65], 0)),
     (Refusal::Currents, |p| ask(p, Contract { basis: basis::SHARED, ..AGREED }, &[1, 2_001], 0)),
     (Refusal::Currents, |p| ask(p, Contract { basis: basis::SHARED, ..AGREED }, &[1, 1], 2)),
+    (Refusal::IntegralMeter, |p| ask(p, Contract { power: Kw(670), ..INTEGRAL }, &[], 0)),
+    (Refusal::IntegralMeter, |p| ask(p, Contract { basis: basis::SHARED, power: Kw(1_339), ..INTEGRAL }, &[1, 1], 0)),
+    (Refusal::IntegralMeter, |p| {
+        ask(p, Contract { cable: Cable { amperes: 1_339, volts: 250, cosine: 1_000, phases: 3 }, ..CABLE }, &[], 0)
+    }),
 ];
 
 const READING: [Refused; 24] = [
@@ -265,6 +273,12 @@ fn lowest_number_first() {
     // no meter of that form (20), out of service (21) and no hours (23)
     check(Refusal::NoSuchMeter, failed(), |p| p.record.read_control_hours(&mut p.store, &[]));
     check(Refusal::BillingBarred, failed(), |p| p.record.read_billing_hours(&mut p.store, &[]));
+    // a place outside the list (14), and an integral meter with too much power by any place in it (15)
+    check(Refusal::Currents, read(), |p| {
+        ask(p, Contract { basis: basis::SHARED, power: Kw(1_000_000), ..INTEGRAL }, &[1, 1], 2)
+    });
+    // a power above its limit (12), and above that of an integral meter (15)
+    check(Refusal::Basis, read(), |p| ask(p, Contract { power: Kw(1_000_001), ..INTEGRAL }, &[], 0));
     // a mark above 3 (41) in marks that are too few (40), with no buffer (44)
     check(Refusal::MarkCount, read(), |p| p.record.close(&mut p.store, &[9], &mut []).map(drop));
 }
