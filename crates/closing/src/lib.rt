@@ -1,12 +1,13 @@
 // The closing of a month (document 01, 'Closing').
 #![tactic(auto)]
 
-ghost use Rattle.std.specs.Prelude.{◌≡◌, length};
+ghost use Rattle.std.specs.Prelude.{ℕ, List, ◌≡◌, length};
 ghost use Rattle.marks.specs.Marks.{survey_of, capacity_in};
 ghost use Rattle.rules.specs.Calls.Call.{closing};
 ghost use Rattle.rules.specs.Grounds.{ground_number};
 ghost use Rattle.model.specs.Model.{state, refusal, Does};
-ghost use Rattle.model.specs.Refused.{number_of};
+ghost use Rattle.model.specs.Refusals.{wrong_day};
+ghost use Rattle.model.specs.Refused.{refusal_number, number_of};
 ghost use Rattle.model.specs.Settled.{Settled};
 ghost use Rattle.closing.specs.Closes.{ClosesWith};
 
@@ -24,7 +25,7 @@ use rules::Figures;
 use store::store_fits;
 use units::Kwh;
 
-// The refusals of a closing, 1 to 3 and 40 to 45, where the marks are surveyed.
+// The refusals of a closing, 1 to 3 and 40 to 46, where the marks are surveyed.
 #[tactic(auto, using(crate::proofs::Leaves::number_is))]
 fn check_surveyed(
     r: Record,
@@ -40,8 +41,9 @@ fn check_surveyed(
     check_anyone(store.len(), r)?;
     refuse_if(marks.len() != t, Refusal::NotMonthMarks)?;
     refuse_if(survey.high, Refusal::UnknownMark)?;
-    refuse_if(survey.crowded, Refusal::TooManyPeakHours)?;
-    refuse_if(survey.unmatched, Refusal::CapacityHours)?;
+    refuse_if(survey.crowded_day != 0, Refusal::TooManyPeakHours)?;
+    refuse_if(survey.doubled_day != 0, Refusal::TooManyCapacityHours)?;
+    refuse_if(survey.unmatched_day != 0, Refusal::NoCapacityHour)?;
     refuse_if(hours.len() != 744, Refusal::HourBufferSize)?;
     refuse_if(!store_fits(store), Refusal::WordAboveLimit)
 }
@@ -54,11 +56,25 @@ pub fn check_closing(r: Record, store: &[u32], marks: &[u8], hours: &[u32]) -> R
     check_surveyed(r, store, marks, survey, hours)
 }
 
+// The day of the surveyed marks that is wrong, of the fault that the closing is refused for.
+#[tactic(auto, using(crate::proofs::Leaves::day_of_number))]
+fn wrong_day(refusal: Refusal, survey: Survey) -> u64
+    ensures { (marks : List ℕ) → survey ≡ survey_of marks → result ≡ wrong_day (refusal_number refusal) marks }
+{
+    match refusal {
+        Refusal::TooManyPeakHours => survey.crowded_day,
+        Refusal::TooManyCapacityHours => survey.doubled_day,
+        Refusal::NoCapacityHour => survey.unmatched_day,
+        _ => 0,
+    }
+}
+
 // The figures of a closing, with C and d, and capacity from them.
 fn figures_of(found: Found, sum: Kwh, days: u64) -> Figures
     ensures found_value { (result.ground ≡ ground_number found.ground) × (result.volume ≡ found.volume) }
     ensures capacity_value { result.capacity.0 ≡ capacity_in sum.0 days }
     ensures sum_value { (result.sum ≡ sum) × (result.days ≡ days) }
+    ensures no_wrong_day { result.wrong_day ≡ 0 }
 {
     Figures {
         ground: found.ground.number(),
@@ -66,6 +82,7 @@ fn figures_of(found: Found, sum: Kwh, days: u64) -> Figures
         capacity: capacity(sum, days),
         sum,
         days,
+        wrong_day: 0,
     }
 }
 
@@ -101,7 +118,7 @@ pub fn close(r: Record, store: &mut [u32], marks: &[u8], hours: &mut [u32]) -> A
 {
     let survey = survey_marks(marks);
     if let Err(refusal) = check_surveyed(r, store, marks, survey, hours) {
-        return Answer::refused(refusal, r);
+        return Answer::refused_on(refusal, r, wrong_day(refusal, survey));
     }
     close_settled(r, store, marks, survey, hours)
 }

@@ -7,19 +7,20 @@ use borrow.Author.Tests.{eq-eqb}
 use lib.Dec.{eqb}
 use lib.ListN.{length}
 use Rattle.calendar.specs.Calendar.{open_hours}
-use Rattle.marks.specs.Marks.{high, crowded, unmatched}
+use Rattle.marks.specs.Marks.{high, crowded, doubled, unmatched}
 use Rattle.rules.specs.Calls.{closing}
 use Rattle.model.specs.Refusals.{refuse, own_refusal}
 use Rattle.model.specs.Model.{State, refusal, accepted}
 use Rattle.model.specs.Sound.{Sound}
 
--- a closing of a point that goes on is accepted, where 3 and 40 to 44 do not apply
+-- a closing of a point that goes on is accepted, where 3, 40 to 44 and 46 do not apply
 pub passes : (s : State) (marks buffer : List ℕ) → Sound s
     → refuse (eqb s.point.date.year 3000) 3
     (refuse (not (eqb (length marks) (open_hours s.point.date))) 40
     (refuse (high marks) 41
     (refuse (crowded marks (length marks / 24)) 42
-    (refuse (unmatched marks (length marks / 24)) 43 (refuse (not (eqb (length buffer) 744)) 44 0)))))
+    (refuse (doubled marks (length marks / 24)) 43
+    (refuse (unmatched marks (length marks / 24)) 46 (refuse (not (eqb (length buffer) 744)) 44 0))))))
     ≡ 0
     → accepted s (closing marks buffer) ≡ true
 unfolding accepted refusal own_refusal refuse

@@ -12,7 +12,7 @@ use Rattle.calendar.specs.Calendar.{leap_year, is_month, month_days, month_hours
 use Rattle.sharing.specs.Shares.{past_at, stretched}
 use Rattle.sharing.proofs.Rule.{past_short}
 use Rattle.power.specs.Power.{agreed_fits, power_on}
-use Rattle.marks.specs.Marks.{high, crowded, unmatched}
+use Rattle.marks.specs.Marks.{high, crowded, doubled, unmatched}
 use Rattle.contract.specs.Contract.{kept, power_of}
 use Rattle.store.specs.Store.{empty_store}
 use Rattle.rules.specs.Rules.{evenly, by_weights, by_contract, on_past, on_control, on_billing, rules, becomes_past}
@@ -36,7 +36,7 @@ closed s t sound y = record { left = rw y; sound = call_sound s (plainly t) soun
 unfoldable month_definitions : Unit {0}
 unfolding opened kept power_on power_of accept closed_with inputs measured_in past_month past_in rules on_billing on_control on_past by_contract evenly
     by_weights becomes_past
-    open_hours month_hours month_days is_month leap_year next_month refuse high crowded unmatched none_above
+    open_hours month_hours month_days is_month leap_year next_month refuse high crowded doubled unmatched none_above
 month_definitions = tt
 
 -- the open months

@@ -10,13 +10,14 @@ use lib.ListN.{replicate}
 use Rattle.numbers.specs.Lists.{zeros, padded}
 use Rattle.calendar.specs.Calendar.{leap_year, is_month, month_days, month_hours, open_hours}
 use Rattle.power.specs.Power.{power_on}
-use Rattle.marks.specs.Marks.{peak_count, working_days, capacity_sum, capacity_of}
+use Rattle.marks.specs.Marks.{first_day, peak_count, working_days, capacity_sum, capacity_of}
 use Rattle.contract.specs.Contract.{kept}
 use Rattle.record.specs.declared.Record.{Record}
 use Rattle.record.specs.Record.{kwh, zero_record, fresh_record}
 use Rattle.rules.specs.Calls.{Opening, billing_volume, admission, denial, Call, read, report, closing, is_closing, marks_of, buffer_of}
 use Rattle.rules.specs.Rules.{figures, no_figures}
-use Rattle.model.specs.Model.{State, state, accept, after_report, refusal, accepted, leaves, figures_of, hours_out, answer, buffer_after}
+use Rattle.model.specs.Refusals.{wrong_day}
+use Rattle.model.specs.Model.{State, state, accept, after_report, refusal, accepted, leaves, figures_of, hours_out, refused_figures, answer, buffer_after}
 use Rattle.model.specs.Opening.{opens, opened, open_leaves, open_answer}
 use Rattle.model.proofs.Examples.{refusal_definitions}
 use Rattle.history.specs.Book.{month_of}
@@ -38,7 +39,7 @@ said c number g hs =
             refusal = number;
             after = totalled (100 + g);
             figures = record
-                { ground = g; volume = record { 0 = 0 }; capacity = record { 0 = 0 }; sum = record { 0 = 0 }; days = 0 };
+                { ground = g; volume = record { 0 = 0 }; capacity = record { 0 = 0 }; sum = record { 0 = 0 }; days = 0; wrong_day = 0 };
           };
       store = g ∷ [];
       buffer = hs;
@@ -189,15 +190,24 @@ unfolding turn_definitions
 keeps = (refl, refl, refl)
 
 -- A REFUSED CALL that leaves all as it was, after a closing that left the ground 8 in the store
-abbrev left_by : Call → ℕ → List ℕ → Turn
-left_by c number hs = record (said c number 8 hs) { answer = record (said c number 8 hs).answer { figures = no_figures } }
+abbrev left_by : Call → ℕ → ℕ → List ℕ → Turn
+left_by c number day hs =
+    record (said c number 8 hs) { answer = record (said c number 8 hs).answer { figures = record no_figures { wrong_day = day } } }
+
+-- two days, of which the second has two capacity hours and both have peaks
+abbrev twice : List ℕ
+twice = 3 ∷ (zeros 23 ++ (2 ∷ (zeros 22 ++ (3 ∷ []))))
 
 leaves_all : (s : State)
-    → Untouched s (left_by (closing (2 ∷ []) (7 ∷ 6 ∷ [])) 40 (7 ∷ 6 ∷ [])) (shut 8 1 ∷ shut 7 2 ∷ [])
-    × Untouched s (left_by (report denial) 33 []) (shut 8 1 ∷ [])
-unfolding turn_definitions buffer_of
-leaves_all s =
-    (record { point = refl; store = refl; buffer = refl; figures = refl }, record { point = refl; store = refl; buffer = refl; figures = refl })
+    → Untouched s (left_by (closing (2 ∷ []) (7 ∷ 6 ∷ [])) 40 0 (7 ∷ 6 ∷ [])) (shut 8 1 ∷ shut 7 2 ∷ [])
+    × Untouched s (left_by (closing twice (7 ∷ 6 ∷ [])) 43 2 (7 ∷ 6 ∷ [])) (shut 8 1 ∷ [])
+    × Untouched s (left_by (report denial) 33 0 []) (shut 8 1 ∷ [])
+unfolding turn_definitions buffer_of marks_of refused_figures wrong_day first_day
+leaves_all s = (
+  record { point = refl; store = refl; buffer = refl; figures = refl },
+  record { point = refl; store = refl; buffer = refl; figures = refl },
+  record { point = refl; store = refl; buffer = refl; figures = refl },
+)
 
 -- AN ACCEPTED CLOSING of February after January, 1 kW on ground 8: 672 hours of 1 kWh with 0 behind them; hour 0 is a capacity hour, so that C,
 -- d and capacity are 1. What the hour buffer holds at first is not its marks
@@ -209,7 +219,8 @@ february =
           record {
             refusal = 0;
             after = totalled 108;
-            figures = record { ground = 8; volume = record { 0 = 672 }; capacity = record { 0 = 1 }; sum = record { 0 = 1 }; days = 1 };
+            figures = record
+                { ground = 8; volume = record { 0 = 672 }; capacity = record { 0 = 1 }; sum = record { 0 = 1 }; days = 1; wrong_day = 0 };
           };
       store = 8 ∷ [];
       buffer = replicate 672 1 ++ zeros 72;
@@ -248,7 +259,7 @@ without_hours c number =
 
 a_run : Run o (state (fresh_record o.asked o.date) (zeros 10416)) (without_hours (report admission) 32 ∷ without_hours (report denial) 0 ∷ [])
 unfolding turn_definitions refusal_definitions kept power_on opens opened open_leaves open_answer Follows answer leaves refusal accepted
-    accept after_report buffer_after figures_of hours_out is_closing buffer_of
+    accept after_report buffer_after figures_of hours_out refused_figures wrong_day is_closing marks_of buffer_of
 a_run =
     record {
       before = replicate 10416 7;

@@ -93,7 +93,7 @@ module _ (s : State) (t : Turn) (ts : List Turn) (does : Does (state_after s ts)
         point = ap (λ (x : State). x.point) (state_refused f);
         store = ap (λ (x : State). x.store) (state_refused f);
         buffer = does.buffered ∙ rw n;
-        figures = ap (λ (x : Answer). x.figures) does.answered ∙ rw n;
+        figures = rw number (ap (λ (x : Answer). x.figures) does.answered ∙ rw n);
       }
 
 -- what an accepted closing answers is what the book works out

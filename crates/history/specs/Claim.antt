@@ -6,10 +6,10 @@ use Rattle.calendar.specs.Calendar.{open_hours}
 use Rattle.store.specs.Store.{row_part}
 use Rattle.store.specs.Store.{as_row}
 use Rattle.rules.specs.Calls.{Opening, Call, is_closing, marks_of, buffer_of}
-use Rattle.rules.specs.Rules.{figures, no_figures}
+use Rattle.rules.specs.Rules.{figures}
 use Rattle.rules.specs.Right.{NearShare}
 use Rattle.model.specs.declared.Answer.{Answer}
-use Rattle.model.specs.Model.{State, state, row_of, refusal, Does}
+use Rattle.model.specs.Model.{State, state, row_of, refusal, refused_figures, Does}
 use Rattle.model.specs.Opening.{Opens}
 use Rattle.history.specs.Book.{Book, month_of, volumes, work_out, feed}
 
@@ -81,12 +81,12 @@ abbrev pub Each : (Turn → List Turn → Type 0) → List Turn → Type 0
 Each P [] = Unit {0}
 Each P (t ∷ ts) = P t ts × Each P ts
 
--- a refused call leaves record, store and hour buffer as they were, with ground and figures 0
+-- a refused call leaves record, store and hour buffer as they were, with ground and figures 0, but for the day of a closing refused with 42, 43 or 46
 pub record Untouched (s : State) (t : Turn) (ts : List Turn) : Type 0 where
   pub point : t.answer.after ≡ (state_after s ts).point
   pub store : t.store ≡ (state_after s ts).store
   pub buffer : t.buffer ≡ buffer_of t.call
-  pub figures : t.answer.figures ≡ no_figures
+  pub figures : t.answer.figures ≡ refused_figures t.answer.refusal t.call
 
 -- an accepted closing gives the book's hours, with 0 from T on, and its ground, month volume, C, d and capacity
 pub record AsBook (o : Opening) (t : Turn) (ts : List Turn) : Type 0 where

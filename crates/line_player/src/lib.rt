@@ -66,7 +66,9 @@ impl<const N: usize> Player<N> {
     fn answered(&mut self, call: Call, a: Answer)
         ensures { self.new.record ≡ a.after }
     {
-        self.answers.put_call(self.line, call, a.refusal);
+        let open = self.record.date;
+        self.answers
+            .put_call(self.line, call, a.refusal, a.figures.wrong_day, open);
         self.record = a.after;
         if a.refusal == 0 {
             self.counts.accepted = self.counts.accepted.saturating_add(1);

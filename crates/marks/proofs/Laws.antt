@@ -6,16 +6,16 @@ use Prim.Native.Nat.{ℕ, ◌+◌, ◌*◌, ◌/◌, ◌≤◌, ◌<◌}
 use native.Mathlib.Nat.{mul-le-mul_left, pos_of_ne-zero}
 use native.Mathlib.Omega.{arith}
 use borrow.Author.Tests.{ltb-true, ltb-false, lt-ltb, eqb-false}
-use lib.Dec.{eqb, ltb}
+use lib.Dec.{eqb}
 use lib.ListN.{length, take, drop, length-drop, get_or-eq_default}
 use lib.Seq.{get_or-take, get_or-drop, length-take-le}
 use Rattle.marks.specs.declared.days.Day.{Day}
 use Rattle.numbers.specs.Lists.{sum_to, any_to, count_to, at}
 use Rattle.numbers.specs.Rounding.{half_up}
-use Rattle.numbers.proofs.Laws.{by_cases, neither, sum_stop, sum_parts, sum_same, sum_most, sum_weighted, count_any, count_some, count_holds}
+use Rattle.numbers.proofs.Laws.{by_cases, sum_stop, sum_parts, sum_same, sum_most, sum_weighted, count_any, count_some, count_holds}
 use Rattle.numbers.proofs.Laws.{HoldsOfOne, none_at}
 use Rattle.numbers.proofs.Rounds.{half_up_most}
-use Rattle.marks.specs.Marks.{peak_at, capacity_at, peak_count, day_of, is_working, is_crowded, is_unmatched, working_days, crowded, unmatched}
+use Rattle.marks.specs.Marks.{peak_at, capacity_at, peak_count, day_of, is_working, is_crowded, is_doubled, working_days, crowded, doubled}
 use Rattle.marks.specs.Marks.{survey_with, survey_of, capacity_sum, capacity_of, capacity_in}
 
 -- a day is a working day just where it has a capacity hour
@@ -31,19 +31,18 @@ unfolding working_days
 days_working marks k = sum_same k _ _ (λ j l. rw (count_any (λ h. capacity_at marks (24 * j + h)) 24))
 
 -- where 43 passes, a working day has one capacity hour
-matched : (marks : List ℕ) (j : ℕ) → is_unmatched (day_of marks j) ≡ false
-    → (day_of marks j).capacities ≡ cond (is_working (day_of marks j)) 1 0
-matched marks j e =
-    let one = ltb-false 1 (day_of marks j).capacities (neither (ltb 1 (day_of marks j).capacities) _ e).0 in
+single_capacity : (marks : List ℕ) (j : ℕ) → is_doubled (day_of marks j) ≡ false → (day_of marks j).capacities ≡ cond (is_working (day_of marks j)) 1 0
+single_capacity marks j e =
+    let one = ltb-false 1 (day_of marks j).capacities e in
     by_cases (is_working (day_of marks j))
     (λ t. rw t (omega (arith, ltb-true 0 (day_of marks j).capacities t)))
     (λ f. rw f (omega (arith, ltb-false 0 (day_of marks j).capacities f)))
 
 -- LAW: where 43 passes, d is the number of capacity hours too
-pub days_capacities : (marks : List ℕ) (k : ℕ) → unmatched marks k ≡ false → working_days marks k ≡ count_to (capacity_at marks) (24 * k)
-unfolding working_days unmatched
+pub days_capacities : (marks : List ℕ) (k : ℕ) → doubled marks k ≡ false → working_days marks k ≡ count_to (capacity_at marks) (24 * k)
+unfolding working_days doubled
 days_capacities marks k e =
-    sum_same k _ (λ j. (day_of marks j).capacities) (λ j l. sym (matched marks j (none_at (λ i. is_unmatched (day_of marks i)) k j e l)))
+    sum_same k _ (λ j. (day_of marks j).capacities) (λ j l. sym (single_capacity marks j (none_at (λ i. is_doubled (day_of marks i)) k j e l)))
     ∙ sym (sum_parts (λ h. cond (capacity_at marks h) 1 0) 24 k)
 
 -- LAW: the survey's n is n, of marks of whole days
@@ -91,7 +90,7 @@ capacity_sum_hours marks hours l =
     sum_stop (λ h. cond (capacity_at marks h) (at hours h) 0) l (λ h m. rw (get_or-eq_default marks 0 {n = h} m))
 
 -- LAW: of a month of k days that passes 43, with no hour above x, capacity is at most x
-pub month_capacity_most : (marks hours : List ℕ) (k x : ℕ) → length marks ≡ 24 * k → k ≤ 31 → unmatched marks k ≡ false
+pub month_capacity_most : (marks hours : List ℕ) (k x : ℕ) → length marks ≡ 24 * k → k ≤ 31 → doubled marks k ≡ false
     → ((h : ℕ) → at hours h ≤ x)
     → capacity_of (capacity_sum marks hours) (working_days marks k) ≤ x
 month_capacity_most marks hours k x e l f small =

@@ -1,4 +1,5 @@
 pub mod Laws
 pub mod Rule
 pub mod Flag
+pub mod WhichDay
 pub mod Examples

@@ -1,5 +1,5 @@
 -- Marks (document 01, 'Months and marks'): one byte an hour, 0 ordinary, 1 planned peak, 2 capacity hour, 3 both.
-use Rattle.std.specs.Prelude.{ℕ, ◌+◌, ◌*◌, ◌/◌, min, Bool, cond, not, ◌&&◌, ◌||◌, List, length, eqb, ltb}
+use Rattle.std.specs.Prelude.{ℕ, zero, suc, ◌+◌, ◌*◌, ◌/◌, min, Bool, cond, not, ◌&&◌, ◌||◌, List, length, eqb, ltb}
 use Rattle.numbers.specs.Lists.{sum_to, any_to, count_to, at, none_above}
 use Rattle.numbers.specs.Rounding.{half_up}
 use Rattle.marks.specs.declared.days.Day.{Day}
@@ -37,32 +37,49 @@ is_working day = ltb 0 day.capacities
 abbrev pub is_crowded : Day → Bool
 is_crowded day = ltb 16 day.peaks
 
--- 43: two or more capacity hours in a day, or peak hours without one
+-- 43: two or more capacity hours in a day
+abbrev pub is_doubled : Day → Bool
+is_doubled day = ltb 1 day.capacities
+
+-- 46 (document 02, E8): peak hours in a day without a capacity hour
 abbrev pub is_unmatched : Day → Bool
-is_unmatched day = ltb 1 day.capacities || (ltb 0 day.peaks && eqb day.capacities 0)
+is_unmatched day = ltb 0 day.peaks && eqb day.capacities 0
 
 -- d, the count of working days among the first k
 unfoldable pub working_days : List ℕ → ℕ → ℕ
 working_days marks k = count_to (λ j. is_working (day_of marks j)) k
 
--- whether 42 and 43 apply to one of the first k days
+-- whether 42, 43 and 46 apply to one of the first k days
 unfoldable pub crowded : List ℕ → ℕ → Bool
 crowded marks k = any_to (λ j. is_crowded (day_of marks j)) k
 
+unfoldable pub doubled : List ℕ → ℕ → Bool
+doubled marks k = any_to (λ j. is_doubled (day_of marks j)) k
+
 unfoldable pub unmatched : List ℕ → ℕ → Bool
 unmatched marks k = any_to (λ j. is_unmatched (day_of marks j)) k
+
+-- WHICH DAY (document 02, E8): the earlier day if there is one, else this day if it is wrong, else 0
+abbrev pub or_day : ℕ → ℕ → Bool → ℕ
+or_day earlier day wrong = cond (eqb earlier 0) (cond wrong day 0) earlier
+
+-- the first of the first k days that the test holds of, counted from 1, and 0 where it holds of none
+unfoldable pub first_day : (Day → Bool) → List ℕ → ℕ → ℕ
+first_day test marks zero = 0
+first_day test marks (suc k) = or_day (first_day test marks k) (suc k) (test (day_of marks k))
 
 -- 41: a mark above 3
 unfoldable pub high : List ℕ → Bool
 high marks = not (none_above 3 marks)
 
--- which of 41, 42 and 43 apply, n and d; a month's marks are whole days
+-- whether 41 applies, the first days with the fault of 42, of 43 and of 46, n and d; a month's marks are whole days
 unfoldable pub survey_with : List ℕ → Bool → Survey
 survey_with marks high =
     record {
       high = high;
-      crowded = crowded marks (length marks / 24);
-      unmatched = unmatched marks (length marks / 24);
+      crowded_day = first_day is_crowded marks (length marks / 24);
+      doubled_day = first_day is_doubled marks (length marks / 24);
+      unmatched_day = first_day is_unmatched marks (length marks / 24);
       peaks = count_to (peak_at marks) (24 * (length marks / 24));
       days = working_days marks (length marks / 24);
     }

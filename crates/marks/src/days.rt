@@ -1,7 +1,8 @@
 // What a month's marks say, hour by hour and day by day.
 ghost use Rattle.std.specs.Prelude.{◌≡◌, ◌+◌, ◌*◌, ◌≤◌, length};
 ghost use Rattle.numbers.specs.Lists.{none_above, count_to};
-ghost use Rattle.marks.specs.Marks.{is_peak, is_capacity, peak_at, capacity_at, is_working, is_crowded, is_unmatched, survey_with};
+ghost use Rattle.marks.specs.Marks.{or_day, survey_with};
+ghost use Rattle.marks.specs.Marks.{is_peak, is_capacity, peak_at, capacity_at, is_working, is_crowded, is_doubled, is_unmatched};
 
 use super::Survey;
 use numbers::none_above;
@@ -78,10 +79,17 @@ impl Day {
     }
 
     // Whether number 43 applies.
+    fn is_doubled(self) -> bool
+        ensures { result ≡ is_doubled self }
+    {
+        1 < self.capacities
+    }
+
+    // Whether number 46 applies.
     fn is_unmatched(self) -> bool
         ensures { result ≡ is_unmatched self }
     {
-        (1 < self.capacities) | ((0 < self.peaks) & (self.capacities == 0))
+        (0 < self.peaks) & (self.capacities == 0)
     }
 
     // Whether it is a working day.
@@ -92,9 +100,16 @@ impl Day {
     }
 }
 
-// Day by day, whether 42 and 43 apply, n and d. It goes by the number of the day, by which the definition asks for the
-// marks of a day: a loop over `chunks_exact` needs a law of the part that a day is, and is no plainer.
-#[tactic(auto, unfolding(crate::specs::Marks::survey_with, crate::specs::Marks::crowded, crate::specs::Marks::unmatched, crate::specs::Marks::working_days))]
+// The first wrong day so far: the first of the earlier ones, 0 where there is none, or else this day if it is wrong.
+fn or_day(earlier: u64, day: u64, wrong: bool) -> u64
+    ensures { result ≡ or_day earlier day wrong }
+{
+    if earlier == 0 && wrong { day } else { earlier }
+}
+
+// Day by day, the first day with the fault of 42, of 43 and of 46, n and d. It goes by the number of the day, by which the
+// definition asks for the marks of a day: a loop over `chunks_exact` needs a law of the part that a day is, and is no plainer.
+#[tactic(auto, unfolding(crate::specs::Marks::survey_with, crate::specs::Marks::first_day, crate::specs::Marks::working_days))]
 pub fn survey_days(marks: &[u8], high: bool) -> Survey
     ensures { result ≡ survey_with marks.now high }
 {
@@ -104,8 +119,10 @@ pub fn survey_days(marks: &[u8], high: bool) -> Survey
     };
     for k in 0..marks.len() / 24 {
         let day = Day::of(&marks[24 * k..24 * k + 24]);
-        survey.crowded |= day.is_crowded();
-        survey.unmatched |= day.is_unmatched();
+        let day_number = k as u64 + 1;
+        survey.crowded_day = or_day(survey.crowded_day, day_number, day.is_crowded());
+        survey.doubled_day = or_day(survey.doubled_day, day_number, day.is_doubled());
+        survey.unmatched_day = or_day(survey.unmatched_day, day_number, day.is_unmatched());
         survey.peaks += u64::from(day.peaks);
         survey.days += u64::from(day.is_working());
     }

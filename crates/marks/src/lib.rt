@@ -1,4 +1,4 @@
-// Marks of a month's hours: what number 41, 42 or 43 refuses, the counts n and d, the sum C and capacity.
+// Marks of a month's hours: what number 41, 42, 43 or 46 refuses and on which day, the counts n and d, the sum C and capacity.
 #![tactic(auto)]
 
 ghost use Rattle.std.specs.Prelude.{◌≡◌, cond};
@@ -12,17 +12,19 @@ use days::{is_capacity, none_high, survey_days};
 use numbers::{half_up, word_at};
 use units::{Kw, Kwh};
 
-// What the marks of a month say: whether 41, 42 and 43 apply, n and d.
+// What the marks of a month say: whether 41 applies; the first day with the fault of 42, of 43 and of 46, counted from 1, and 0
+// where there is none; n and d.
 #[derive(Clone, Copy, Debug, PartialEq, Eq, Default)]
 pub struct Survey {
     pub high: bool,
-    pub crowded: bool,
-    pub unmatched: bool,
+    pub crowded_day: u64,
+    pub doubled_day: u64,
+    pub unmatched_day: u64,
     pub peaks: u64,
     pub days: u64,
 }
 
-// Which of 41, 42 and 43 apply, n and d.
+// Whether 41 applies, the days of 42, 43 and 46, n and d.
 #[tactic(auto, unfolding(crate::specs::Marks::survey_of, crate::specs::Marks::high))]
 pub fn survey_marks(marks: &[u8]) -> Survey
     ensures { result ≡ survey_of marks.now }

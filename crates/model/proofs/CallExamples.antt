@@ -11,7 +11,7 @@ use Rattle.calendar.specs.declared.Date.{Date}
 use Rattle.calendar.specs.Calendar.{month_number, date_of, next_month}
 use Rattle.sharing.specs.Shares.{portion, taken, spread, shares_over}
 use Rattle.power.specs.Power.{power_on}
-use Rattle.marks.specs.Marks.{working_days, capacity_sum, capacity_of}
+use Rattle.marks.specs.Marks.{first_day, working_days, capacity_sum, capacity_of}
 use Rattle.contract.specs.Contract.{no_cable, kept, power_of}
 use Rattle.record.specs.declared.Record.{Record}
 use Rattle.record.specs.declared.Readings.{Readings}
@@ -26,9 +26,12 @@ use Rattle.rules.specs.Rules.{missing, hourly, whole, counted_of, neighbour_of, 
 use Rattle.rules.specs.Rules.{rules, becomes_past, figures, no_figures}
 use Rattle.model.specs.Model.{State, state, fault_within_year, after_failure, measured_in, stated_in, row_of, row_hours, last_year, past_month, past_in, inputs}
 use Rattle.model.specs.Model.{past_after, run_after, rows_after, store_after, closed_with, after_reading, after_report, accept, refusal, accepted, leaves}
-use Rattle.model.specs.Model.{figures_of, hours_out, answer, buffer_after}
+use Rattle.model.specs.declared.Answer.{Answer}
+use Rattle.model.specs.Refusals.{wrong_day}
+use Rattle.model.specs.Model.{figures_of, hours_out, only_day, refused_figures, answer, buffer_after}
 use Rattle.model.specs.Opening.{opens, opened, open_leaves, open_answer}
 use Rattle.model.proofs.Examples.{refusal_definitions, on, contract, point, served_so, out, denied, opening}
+use Rattle.model.proofs.Examples.{lone_peaks, two_capacities, many_peaks}
 
 unfoldable call_definitions : Unit {0}
 unfolding refusal_definitions date_of accept after_reading after_report past_month past_in measured_in stated_in inputs counted_of neighbour_of
@@ -38,8 +41,8 @@ call_definitions = tt
 -- what a closing works out, and what a call is answered with
 unfoldable answer_definitions : Unit {0}
 unfolding call_definitions rules on_billing on_control on_past by_contract evenly by_weights as_read figures power_of half_up portion taken spread
-    shares_over working_days capacity_sum capacity_of is_closing marks_of buffer_of refusal accepted leaves figures_of hours_out answer buffer_after
-    opens opened open_leaves open_answer kept power_on
+    shares_over working_days capacity_sum capacity_of is_closing marks_of buffer_of refusal accepted leaves figures_of hours_out refused_figures
+    wrong_day first_day answer buffer_after opens opened open_leaves open_answer kept power_on
 answer_definitions = tt
 
 -- FAULTS: at most 12 months back, and the same month; 0 is no fault, whatever the month
@@ -351,9 +354,9 @@ two_hours_read = state with_hours_read.point (zeros 8928 ++ (5 ∷ 7 ∷ []))
 -- C is the 7 kWh read in that hour, or 100 on ground 8; a call that is no closing has no figures
 figured :
     (figures_of two_hours_read (closing day [])
-    ≡ record { ground = 1; volume = kwh 12; capacity = record { 0 = 7 }; sum = kwh 7; days = 1 })
+    ≡ record { ground = 1; volume = kwh 12; capacity = record { 0 = 7 }; sum = kwh 7; days = 1; wrong_day = 0 })
     × (figures_of without_reading (closing day (0 ∷ 0 ∷ []))
-    ≡ record { ground = 8; volume = kwh 2400; capacity = record { 0 = 100 }; sum = kwh 100; days = 1 })
+    ≡ record { ground = 8; volume = kwh 2400; capacity = record { 0 = 100 }; sum = kwh 100; days = 1; wrong_day = 0 })
     × (figures_of without_reading (report denial) ≡ no_figures)
     × (figures_of with_hours_read (read (billing_hours [])) ≡ no_figures)
 unfolding answer_definitions
@@ -392,6 +395,23 @@ refused_calls :
     × (buffer_after refused_on (report denial) ≡ [])
 unfolding answer_definitions
 refused_calls = (refl, refl, refl, refl, refl, refl, refl)
+
+-- WHICH DAY: closings of February 2023, which begins with some days and ends with one more
+abbrev closing_with : List ℕ → List ℕ → Answer
+closing_with first last = answer (whole_store (point 1 2)) (closing (padded 648 first ++ last) (9 ∷ []))
+
+abbrev refused_on_day : ℕ → ℕ → Answer
+refused_on_day number day = record { refusal = number; after = point 1 2; figures = only_day day }
+
+-- 42 on the last day before 43 and 46 on earlier ones; 43 on day 2 before 46 on day 1; 46 on the last day and on the first, before 44; with 44 no day
+refused_days :
+    (closing_with (lone_peaks ++ two_capacities) many_peaks ≡ refused_on_day 42 28)
+    × (closing_with (lone_peaks ++ two_capacities) two_capacities ≡ refused_on_day 43 2)
+    × (closing_with [] lone_peaks ≡ refused_on_day 46 28)
+    × (closing_with lone_peaks lone_peaks ≡ refused_on_day 46 1)
+    × (closing_with [] (zeros 24) ≡ refused_on_day 44 0)
+unfolding answer_definitions
+refused_days = (refl, refl, refl, refl, refl)
 
 abbrev hours_of : ℕ → List ℕ
 hours_of n = replicate n 7

@@ -38,7 +38,7 @@ use Rattle.model.specs.Sound.{StateFits, Room}
 use Rattle.model.proofs.Laws.{skip}
 use Rattle.model.proofs.Keeps.{call_passed, open_month, no_hours}
 
--- what numbers 40 to 45 leave of a closing that is accepted
+-- what numbers 40 to 46 leave of a closing that is accepted
 record OwnPassed (r : Record) (store marks buffer : List ℕ) : Type 0 where
   long : length marks ≡ open_hours r.date
   not_crowded : crowded marks (length marks / 24) ≡ false
@@ -53,7 +53,8 @@ own_passed r store marks buffer h =
     let e = skip (lit< tt) d.1 in
     let f = skip (lit< tt) e.1 in
     let g = skip (lit< tt) f.1 in
-    record { long = eqb-true _ _ (not-false _ a.0); not_crowded = d.0; room = eqb-true _ _ (not-false _ f.0); fits = not-false _ g.0 }
+    let i = skip (lit< tt) g.1 in
+    record { long = eqb-true _ _ (not-false _ a.0); not_crowded = d.0; room = eqb-true _ _ (not-false _ g.0); fits = not-false _ i.0 }
 
 -- a reading that the record holds
 measured : (kind k t : ℕ) (g : Reading) (hs : List ℕ) → HoursFit t hs → g.volume.0 ≤ k → MeasuredFits k t (measured_in kind g hs)

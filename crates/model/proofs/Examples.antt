@@ -11,7 +11,7 @@ use Rattle.numbers.specs.Rounding.{half_up}
 use Rattle.sharing.specs.Shares.{portion, taken, spread, shares_over}
 use Rattle.power.specs.declared.Cable.{Cable}
 use Rattle.power.specs.Power.{formula, cable_fits, agreed_fits, list_fits, shared_power, power_on}
-use Rattle.marks.specs.Marks.{high, crowded, unmatched}
+use Rattle.marks.specs.Marks.{high, crowded, doubled, unmatched, first_day}
 use Rattle.contract.specs.declared.Contract.{Contract}
 use Rattle.contract.specs.Contract.{no_cable, kept}
 use Rattle.record.specs.declared.Record.{Record}
@@ -24,11 +24,11 @@ use Rattle.store.specs.Store.{store_fits}
 use Rattle.rules.specs.Calls.{Opening, MeterReading, billing_hours, control_hours, billing_volume, control_volume, neighbour}
 use Rattle.rules.specs.Calls.{Report, failure, admission, denial, permission, read, report, closing}
 use Rattle.model.specs.Refusals.{refuse, refuse_anyone, refuse_reading, reading_number, report_number, own_refusal, open_refusal}
-use Rattle.model.specs.Refusals.{is_barred, not_month, hour_above, volume_above, source_given, is_source, is_reason}
+use Rattle.model.specs.Refusals.{wrong_day, is_barred, not_month, hour_above, volume_above, source_given, is_source, is_reason}
 
 unfoldable pub refusal_definitions : Unit {0}
 unfolding refuse reading_number report_number own_refusal open_refusal valid volume_limit none_above store_fits is_month month_days month_hours
-    open_hours leap_year month_number cable_fits agreed_fits list_fits high crowded unmatched
+    open_hours leap_year month_number cable_fits agreed_fits list_fits high crowded doubled unmatched
 refusal_definitions = tt
 
 abbrev pub on : ℕ → ℕ → Date
@@ -382,11 +382,51 @@ last_numbers :
 unfolding refusal_definitions
 last_numbers = (refl, refl, refl, refl, refl, refl)
 
--- over the marks of February 2023: 41 on the last day before 42 on the first, 42 on the last day before 43 on the first, and 43 on the last day
--- before 44
+-- over the marks of February 2023: 41 on the last day before 42 on the first; 42 on the last day before 43 on the first; 43 on the last day before
+-- 46 on the first; and 46 on the last day before 44
 mark_numbers :
     (closed (set (replicate 17 1 ++ zeros 655) 671 4) 0 ≡ 41)
-    × (closed (1 ∷ (zeros 654 ++ replicate 17 1)) 0 ≡ 42)
-    × (closed (set (zeros 672) 671 1) 0 ≡ 43)
+    × (closed (2 ∷ (2 ∷ (zeros 653 ++ replicate 17 1))) 0 ≡ 42)
+    × (closed (1 ∷ (zeros 669 ++ (2 ∷ 2 ∷ []))) 0 ≡ 43)
+    × (closed (set (zeros 672) 671 1) 0 ≡ 46)
 unfolding refusal_definitions
-mark_numbers = (refl, refl, refl)
+mark_numbers = (refl, refl, refl, refl)
+
+-- WHICH DAY (document 02, E8). Days without a fault, with peaks alone, with two capacity hours, and with 17 peaks
+abbrev no_fault : List ℕ
+no_fault = 1 ∷ 3 ∷ zeros 22
+
+abbrev pub lone_peaks : List ℕ
+lone_peaks = 1 ∷ zeros 23
+
+abbrev pub two_capacities : List ℕ
+two_capacities = 2 ∷ 3 ∷ zeros 22
+
+abbrev pub many_peaks : List ℕ
+many_peaks = 3 ∷ (replicate 16 1 ++ zeros 7)
+
+-- each number has its own first day, counted from 1, whichever the other faults' days are; no other number has a day
+abbrev six_days : List ℕ
+six_days = no_fault ++ (lone_peaks ++ (two_capacities ++ (many_peaks ++ (two_capacities ++ many_peaks))))
+
+wrong_days :
+    (wrong_day 42 six_days ≡ 4)
+    × (wrong_day 43 six_days ≡ 3)
+    × (wrong_day 46 six_days ≡ 2)
+    × (wrong_day 46 lone_peaks ≡ 1)
+    × (wrong_day 43 (no_fault ++ two_capacities) ≡ 2)
+    × (wrong_day 43 lone_peaks ≡ 0)
+    × (wrong_day 0 six_days ≡ 0)
+    × (wrong_day 3 six_days ≡ 0)
+    × (wrong_day 40 six_days ≡ 0)
+    × (wrong_day 41 six_days ≡ 0)
+    × (wrong_day 44 six_days ≡ 0)
+    × (wrong_day 45 six_days ≡ 0)
+    × (wrong_day 47 six_days ≡ 0)
+unfolding wrong_day first_day
+wrong_days = (refl, refl, refl, refl, refl, refl, refl, refl, refl, refl, refl, refl, refl)
+
+-- 23 marks are no day
+no_whole_day : (wrong_day 42 (replicate 23 1) ≡ 0) × (wrong_day 43 (replicate 23 2) ≡ 0) × (wrong_day 46 (replicate 23 1) ≡ 0)
+unfolding wrong_day first_day
+no_whole_day = (refl, refl, refl)

@@ -5,7 +5,7 @@ use mathlib.Core.Logic.{◌⊎◌, inl, inr, ⊎_elim, ◌≢◌}
 use mathlib.Core.Bool.{Bool, true, false, not, ◌&&◌, ◌||◌, false≢true}
 use mathlib.Core.List.{List}
 use native.Mathlib.Omega.{arith}
-use borrow.Author.Tests.{eqb-true, eq-eqb, le-leb}
+use borrow.Author.Tests.{eqb-true, eqb-false, eq-eqb, le-leb}
 use lib.Dec.{eqb, lit≤}
 use lib.ListN.{length, length-replicate}
 use Rattle.numbers.proofs.Laws.{by_cases, both, cond_most}
@@ -186,20 +186,20 @@ does_sound s c a store buffer does sound =
 
 -- the numbers that a call can give on a state that fits
 abbrev Among : ℕ → Type 0
-Among n = (n ≡ 0) ⊎ ((3 ≤ n) × (n ≤ 44))
+Among n = (n ≡ 0) ⊎ ((3 ≤ n) × (eqb n 45 ≡ false))
 
-among : (test : Bool) (number rest : ℕ) → 3 ≤ number → number ≤ 44 → Among rest → Among (refuse test number rest)
+among : (test : Bool) (number rest : ℕ) → 3 ≤ number → eqb number 45 ≡ false → Among rest → Among (refuse test number rest)
 unfolding refuse
 among true number rest l m r = inr (l, m)
 among false number rest l m r = r
 
 readings_among : (t20 t21 t22 t23 t24 : Bool) → Among (refuse_reading t20 t21 t22 t23 t24)
 readings_among t20 t21 t22 t23 t24 =
-    among t20 20 _ (lit≤ tt) (lit≤ tt)
-    (among t21 21 _ (lit≤ tt) (lit≤ tt)
-    (among t22 22 _ (lit≤ tt) (lit≤ tt) (among t23 23 _ (lit≤ tt) (lit≤ tt) (among t24 24 0 (lit≤ tt) (lit≤ tt) (inl refl)))))
+    among t20 20 _ (lit≤ tt) refl
+    (among t21 21 _ (lit≤ tt) refl
+    (among t22 22 _ (lit≤ tt) refl (among t23 23 _ (lit≤ tt) refl (among t24 24 0 (lit≤ tt) refl (inl refl)))))
 
-one_among : (test : Bool) (number : ℕ) → 3 ≤ number → number ≤ 44 → Among (refuse test number 0)
+one_among : (test : Bool) (number : ℕ) → 3 ≤ number → eqb number 45 ≡ false → Among (refuse test number 0)
 one_among test number l m = among test number 0 l m (inl refl)
 
 store_among : (store : List ℕ) → store_fits store ≡ true → Among (refuse (not (store_fits store)) 45 0)
@@ -208,11 +208,12 @@ store_among store f = rw f (inl refl)
 
 closing_among : (r : Record) (store marks buffer : List ℕ) → store_fits store ≡ true → Among (closing_number r store marks buffer)
 closing_among r store marks buffer f =
-    among _ 40 _ (lit≤ tt) (lit≤ tt)
-    (among _ 41 _ (lit≤ tt) (lit≤ tt)
-    (among _ 42 _ (lit≤ tt) (lit≤ tt)
-    (among _ 43 _ (lit≤ tt) (lit≤ tt)
-    (among _ 44 _ (lit≤ tt) (lit≤ tt) (store_among store f)))))
+    among _ 40 _ (lit≤ tt) refl
+    (among _ 41 _ (lit≤ tt) refl
+    (among _ 42 _ (lit≤ tt) refl
+    (among _ 43 _ (lit≤ tt) refl
+    (among _ 46 _ (lit≤ tt) refl
+    (among _ 44 _ (lit≤ tt) refl (store_among store f))))))
 
 reading_among : (r : Record) (x : MeterReading) → Among (reading_number r x)
 unfolding reading_number
@@ -224,10 +225,10 @@ reading_among r (neighbour source v) = readings_among _ _ _ _ _
 
 report_among : (r : Record) (x : Report) → Among (report_number r x)
 unfolding report_number
-report_among r (failure reason) = among _ 30 _ (lit≤ tt) (lit≤ tt) (one_among _ 31 (lit≤ tt) (lit≤ tt))
-report_among r admission = one_among _ 32 (lit≤ tt) (lit≤ tt)
-report_among r denial = one_among _ 33 (lit≤ tt) (lit≤ tt)
-report_among r permission = one_among _ 34 (lit≤ tt) (lit≤ tt)
+report_among r (failure reason) = among _ 30 _ (lit≤ tt) refl (one_among _ 31 (lit≤ tt) refl)
+report_among r admission = one_among _ 32 (lit≤ tt) refl
+report_among r denial = one_among _ 33 (lit≤ tt) refl
+report_among r permission = one_among _ 34 (lit≤ tt) refl
 
 own_among : (r : Record) (store : List ℕ) (c : Call) → store_fits store ≡ true → Among (own_refusal r store c)
 unfolding own_refusal
@@ -239,7 +240,7 @@ refusal_among : (s : State) (c : Call) → StateFits s → Among (refusal s c)
 unfolding refusal refuse
 refusal_among s c f =
     rw (eq-eqb (length s.store) 10416 f.words, f.record_fits)
-    (among (eqb s.point.date.year 3000) 3 _ (lit≤ tt) (lit≤ tt) (own_among s.point s.store c f.store_fits_lem))
+    (among (eqb s.point.date.year 3000) 3 _ (lit≤ tt) refl (own_among s.point s.store c f.store_fits_lem))
 
 -- NO CALL IS REFUSED WITH 1, 2 OR 45
 pub never_refused : (s : State) (c : Call) → Sound s → (refusal s c ≢ 1) × (refusal s c ≢ 2) × (refusal s c ≢ 45)
@@ -247,5 +248,5 @@ never_refused s c sound =
     let a = refusal_among s c sound.fits in (
       λ e. ⊎_elim (λ z. omega (arith, z, e)) (λ r. omega (arith, r.0, e)) a,
       λ e. ⊎_elim (λ z. omega (arith, z, e)) (λ r. omega (arith, r.0, e)) a,
-      λ e. ⊎_elim (λ z. omega (arith, z, e)) (λ r. omega (arith, r.1, e)) a,
+      λ e. ⊎_elim (λ z. omega (arith, z, e)) (λ r. eqb-false _ 45 r.1 e) a,
     )

@@ -6,7 +6,7 @@ use Rattle.std.specs.Prelude.{Result, Ok, Err}
 use mathlib.Core.Bool.{Bool, true, false, not, ◌&&◌, ◌||◌, true≢false}
 use mathlib.Core.List.{List, []}
 use native.Mathlib.Omega.{arith}
-use borrow.Author.Tests.{eq-eqb, ne_eqb, eqb-true, not-false}
+use borrow.Author.Tests.{eq-eqb, ne_eqb, eqb-true, eqb-false, not-false}
 use lib.Dec.{eqb, lit<}
 use lib.ListN.{length}
 use Rattle.numbers.proofs.Laws.{by_cases, both}
@@ -18,21 +18,34 @@ use Rattle.contract.specs.Contract.{is_billing_kind, is_control_kind, meters_fit
 use Rattle.record.specs.declared.Record.{Record}
 use Rattle.record.specs.Record.{zero_record}
 use Rattle.validity.specs.Valid.{valid}
-use Rattle.rules.specs.Calls.{Opening, Call, read, report, closing, is_closing, buffer_of}
+use Rattle.marks.specs.Marks.{first_day}
+use Rattle.rules.specs.Calls.{Opening, Call, read, report, closing, is_closing, marks_of, buffer_of}
 use Rattle.rules.specs.Rules.{no_figures}
 use Rattle.model.specs.Refusals.{refuse, refuse_anyone, refuse_reading, not_month, refuse_asked, open_refusal, reading_number, report_number, own_refusal}
+use Rattle.model.specs.Refusals.{wrong_day}
 use Rattle.model.specs.Model.{State, after_reading, after_report, accept, refusal, accepted, leaves, without_figures, figures_of, hours_out}
+use Rattle.model.specs.Model.{refused_figures}
 use Rattle.model.specs.Model.{answer, buffer_after, Does}
 use Rattle.model.specs.declared.Answer.{Answer}
 use Rattle.model.specs.declared.refusals.Refusal.{Refusal}
 use Rattle.model.specs.Refused.{refusal_number, Gives, answered, GivesPoint}
 use Rattle.model.specs.Opening.{opens, opened, open_leaves, open_answer, Opens}
 
+-- where a list of refusals gives n, a test with another number did not apply, and the rest of the list gives n
+passes_by : {test : Bool} (number : ℕ) {rest n : ℕ} → eqb number n ≡ false → refuse test number rest ≡ n → (test ≡ false) × (rest ≡ n)
+unfolding refuse
+passes_by {test = true} number {n = n} d e = absurd (eqb-false number n d e)
+passes_by {test = false} number d e = (refl, e)
+
+pub unasked : {test : Bool} (number rest : ℕ) {n : ℕ} → eqb number n ≡ false → refuse test number rest ≡ n → test ≡ false
+unasked number rest d e = (passes_by number d e).0
+
+pub behind : (test : Bool) (number : ℕ) {rest n : ℕ} → eqb number n ≡ false → refuse test number rest ≡ n → rest ≡ n
+behind test number d e = (passes_by number d e).1
+
 -- no number: the test did not apply, and the rest of the list gives none either
 pub skip : {test : Bool} {number rest : ℕ} → 0 < number → refuse test number rest ≡ 0 → (test ≡ false) × (rest ≡ 0)
-unfolding refuse
-skip {test = true} l e = absurd (omega arith)
-skip {test = false} l e = (refl, e)
+skip {number = number} l e = passes_by number (ne_eqb number 0 (λ z. omega (arith, l, z))) e
 
 -- what numbers 1 to 3 leave of a call that is accepted
 pub record Passed (words : ℕ) (r : Record) (rest : ℕ) : Type 0 where
@@ -89,7 +102,7 @@ is_refused s c {n} e z = rw e at (ne_eqb n 0 z)
 
 -- a call that is refused, with a number that is not 0
 pub refused : (s : State) (c : Call) {number : ℕ} {a : Answer} → number ≡ refusal s c → number ≢ 0
-    → a ≡ without_figures number s.point → Does s c a s.store (buffer_of c)
+    → a ≡ record { refusal = number; after = s.point; figures = refused_figures number c } → Does s c a s.store (buffer_of c)
 unfolding answer leaves buffer_after
 refused s c e n q =
     let f = is_refused s c e n in
@@ -105,6 +118,19 @@ done s c e z f h q l =
     let t = is_accepted s c e z in
     let n : refusal s c ≡ 0 = sym e ∙ z in
     record { answered = q ∙ rw (t, f, n); left = l ∙ rw t; buffered = rw (t, h) }
+
+-- LAW: a call that is no closing has no marks, of which a day could be wrong
+no_marks : (number : ℕ) → wrong_day number [] ≡ 0
+unfolding wrong_day first_day
+no_marks number =
+    by_cases (eqb number 42) (λ t. rw t)
+    (λ f. rw f (by_cases (eqb number 43) (λ t. rw t) (λ g. rw g (by_cases (eqb number 46) (λ t. rw t) (λ h. rw h)))))
+
+pub no_day : (number : ℕ) (c : Call) → is_closing c ≡ false → refused_figures number c ≡ no_figures
+unfolding is_closing refused_figures marks_of
+no_day number (read reading) e = rw (no_marks number)
+no_day number (report what) e = rw (no_marks number)
+no_day number (closing marks buffer) e = absurd (true≢false e)
 
 -- a call that is no closing has no figures, no hours and no buffer
 no_buffer : (c : Call) → is_closing c ≡ false → buffer_of c ≡ []
@@ -124,7 +150,10 @@ unfolding answer leaves buffer_after
 call_does s c (Ok r) after f g =
     let q = quiet s c f in
     done s c g.0 refl q.0 q.1 (rw (← g.1)) (rw (← g.1))
-call_does s c (Err e) after f g = rw g.1 (rw (quiet s c f).2 at (refused s c g.0 (numbered e) refl))
+call_does s c (Err e) after f g =
+    let said : answered (Err e) s.point ≡ record { refusal = refusal_number e; after = s.point; figures = refused_figures (refusal_number e) c } =
+    rw (no_day (refusal_number e) c f) in
+    rw g.1 (rw (quiet s c f).2 at (refused s c g.0 (numbered e) said))
 
 -- what an opening asks for where it is accepted
 pub record Allowed (words : ℕ) (o : Opening) : Type 0 where

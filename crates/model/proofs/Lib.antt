@@ -3,6 +3,7 @@ pub mod Closes
 pub mod Examples
 pub mod GoesOn
 pub mod Integral
+pub mod WrongDay
 pub mod Keeps
 pub mod Laws
 pub mod RefusedExamples

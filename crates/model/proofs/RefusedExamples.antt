@@ -8,7 +8,8 @@ use Rattle.model.specs.declared.refusals.Refusal.{Refusal}
 use Rattle.model.specs.declared.refusals.Refusal.TheVariants.{StoreSize, InvalidRecord, CalendarOver, NoSuchMonth, MeterKind, BasisOrPower, CableValue}
 use Rattle.model.specs.declared.refusals.Refusal.TheVariants.{CurrentsOrPlace, IntegralMeter, NoSuchMeter, Barred, AlreadyGiven, NotMonthHours}
 use Rattle.model.specs.declared.refusals.Refusal.TheVariants.{ReadingAboveLimit, OutOfService, UnknownReason, InService, TwoDenials, NoDenial}
-use Rattle.model.specs.declared.refusals.Refusal.TheVariants.{NotMonthMarks, UnknownMark, TooManyPeakHours, CapacityHours, HourBufferSize, WordAboveLimit}
+use Rattle.model.specs.declared.refusals.Refusal.TheVariants.{NotMonthMarks, UnknownMark, TooManyPeakHours, TooManyCapacityHours}
+use Rattle.model.specs.declared.refusals.Refusal.TheVariants.{HourBufferSize, WordAboveLimit, NoCapacityHour}
 use Rattle.model.specs.Refused.{refusal_number, number_or, number_of, answered}
 use Rattle.model.proofs.Examples.{point}
 
@@ -44,10 +45,11 @@ closing_numbers :
     (refusal_number NotMonthMarks ≡ 40)
     × (refusal_number UnknownMark ≡ 41)
     × (refusal_number TooManyPeakHours ≡ 42)
-    × (refusal_number CapacityHours ≡ 43)
+    × (refusal_number TooManyCapacityHours ≡ 43)
+    × (refusal_number NoCapacityHour ≡ 46)
     × (refusal_number HourBufferSize ≡ 44)
     × (refusal_number WordAboveLimit ≡ 45)
-closing_numbers = (refl, refl, refl, refl, refl, refl)
+closing_numbers = (refl, refl, refl, refl, refl, refl, refl)
 
 -- tests that all pass, with the record after the call, and one that does not
 abbrev passed : Result Record Refusal

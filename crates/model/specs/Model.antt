@@ -18,7 +18,7 @@ use Rattle.rules.specs.Calls.{Report, failure, admission, denial, permission, Ca
 use Rattle.rules.specs.Rules.{Measured, missing, hourly, whole, Stated, PastHours, Inputs, Outcome}
 use Rattle.rules.specs.Rules.{counted_of, neighbour_of, rules, becomes_past, figures, no_figures}
 use Rattle.model.specs.declared.Answer.{Answer}
-use Rattle.model.specs.Refusals.{refuse_anyone, own_refusal}
+use Rattle.model.specs.Refusals.{refuse_anyone, own_refusal, wrong_day}
 use Rattle.std.specs.Prelude.{None, Some}
 
 -- what a point keeps: its record and its store
@@ -181,10 +181,22 @@ figures_of s c = cond (is_closing c) (figures (rules (inputs s (marks_of c))) (m
 unfoldable pub hours_out : State → Call → List ℕ
 hours_out s c = cond (is_closing c) (as_row (rules (inputs s (marks_of c))).hours) []
 
--- THE ANSWER: a refused call returns the record given, with ground and figures 0
+-- ground and figures 0, but for a day whose marks are wrong
+abbrev pub only_day : ℕ → Figures
+only_day day = record no_figures { wrong_day = day }
+
+-- what a refused call has for figures: the day of a closing refused with 42, 43 or 46 (document 02, E8), else 0 throughout
+unfoldable pub refused_figures : ℕ → Call → Figures
+refused_figures number c = only_day (wrong_day number (marks_of c))
+
+-- THE ANSWER: a refused call returns the record given
 unfoldable pub answer : State → Call → Answer
 answer s c =
-    record { refusal = refusal s c; after = (leaves s c).point; figures = cond (accepted s c) (figures_of s c) no_figures }
+    record {
+      refusal = refusal s c;
+      after = (leaves s c).point;
+      figures = cond (accepted s c) (figures_of s c) (refused_figures (refusal s c) c);
+    }
 
 -- the hour buffer after the call; a refused call leaves it
 unfoldable pub buffer_after : State → Call → List ℕ

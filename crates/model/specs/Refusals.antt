@@ -1,9 +1,10 @@
--- Who causes which number (document 01, and E3 of document 02): the one list of refusals. The lowest number that applies is returned, 0 where none does.
+-- Who causes which number (document 01, and E3 and E8 of document 02): the one list of refusals. Each is asked from its top, and the first number that
+-- applies is returned, 0 where none does: the lowest, but for 46, which is asked before 44 and 45.
 use Rattle.std.specs.Prelude.{ℕ, ◌/◌, Bool, false, not, cond, ◌&&◌, ◌||◌, List, length, eqb, leb, ltb}
 use Rattle.numbers.specs.Lists.{none_above}
 use Rattle.calendar.specs.Calendar.{is_month, open_hours}
 use Rattle.power.specs.Power.{cable_fits, agreed_fits, list_fits, power_on}
-use Rattle.marks.specs.Marks.{high, crowded, unmatched}
+use Rattle.marks.specs.Marks.{is_crowded, is_doubled, is_unmatched, high, crowded, doubled, unmatched, first_day}
 use Rattle.contract.specs.Contract.{meters_fit, integral_on_big_load, is_agreed}
 use Rattle.record.specs.declared.Record.{Record}
 use Rattle.record.specs.declared.Service.{Service}
@@ -126,12 +127,21 @@ closing_number r store marks buffer =
     (refuse (high marks) 41
     -- 42 over 16 peak hours in a day
     (refuse (crowded marks (length marks / 24)) 42
-    -- 43 two or more capacity hours in a day, or peak hours without one
-    (refuse (unmatched marks (length marks / 24)) 43
+    -- 43 two or more capacity hours in a day
+    (refuse (doubled marks (length marks / 24)) 43
+    -- 46 peak hours in a day without a capacity hour (document 02, E8), after 43 and before 44
+    (refuse (unmatched marks (length marks / 24)) 46
     -- 44 hour buffer not 744
     (refuse (not (eqb (length buffer) 744)) 44
     -- 45 a word above 3,000,000 in rows 0 to 11, or above 1,000,000 in 12 or 13
-    (refuse (not (store_fits store)) 45 0)))))
+    (refuse (not (store_fits store)) 45 0))))))
+
+-- which day's marks are wrong (document 02, E8): with 42, 43 and 46 the first such day, counted from 1, and else 0
+unfoldable pub wrong_day : ℕ → List ℕ → ℕ
+wrong_day number marks =
+    cond (eqb number 42) (first_day is_crowded marks (length marks / 24))
+    (cond (eqb number 43) (first_day is_doubled marks (length marks / 24))
+    (cond (eqb number 46) (first_day is_unmatched marks (length marks / 24)) 0))
 
 -- the number of a reading, of a report, and of any call, after anyone's
 unfoldable pub reading_number : Record → MeterReading → ℕ

@@ -6,7 +6,8 @@ use Rattle.model.specs.declared.refusals.Refusal.{Refusal}
 use Rattle.model.specs.declared.refusals.Refusal.TheVariants.{StoreSize, InvalidRecord, CalendarOver, NoSuchMonth, MeterKind, BasisOrPower, CableValue}
 use Rattle.model.specs.declared.refusals.Refusal.TheVariants.{CurrentsOrPlace, IntegralMeter, NoSuchMeter, Barred, AlreadyGiven, NotMonthHours}
 use Rattle.model.specs.declared.refusals.Refusal.TheVariants.{ReadingAboveLimit, OutOfService, UnknownReason, InService, TwoDenials, NoDenial}
-use Rattle.model.specs.declared.refusals.Refusal.TheVariants.{NotMonthMarks, UnknownMark, TooManyPeakHours, CapacityHours, HourBufferSize, WordAboveLimit}
+use Rattle.model.specs.declared.refusals.Refusal.TheVariants.{NotMonthMarks, UnknownMark, TooManyPeakHours, TooManyCapacityHours}
+use Rattle.model.specs.declared.refusals.Refusal.TheVariants.{HourBufferSize, WordAboveLimit, NoCapacityHour}
 use Rattle.rules.specs.Calls.{Opening, Call}
 use Rattle.model.specs.Refusals.{open_refusal}
 use Rattle.model.specs.Model.{State, state, accept, refusal, without_figures}
@@ -62,12 +63,14 @@ refusal_number NotMonthMarks = 40
 refusal_number UnknownMark = 41
 -- over 16 peak hours in a day
 refusal_number TooManyPeakHours = 42
--- two or more capacity hours in a day, or peak hours without one
-refusal_number CapacityHours = 43
+-- two or more capacity hours in a day
+refusal_number TooManyCapacityHours = 43
 -- hour buffer not 744
 refusal_number HourBufferSize = 44
 -- a word above 3,000,000 in rows 0 to 11, or above 1,000,000 in 12 or 13
 refusal_number WordAboveLimit = 45
+-- peak hours in a day without a capacity hour
+refusal_number NoCapacityHour = 46
 
 -- the number of a refusal, and without one that of the rest of the list
 abbrev pub number_or : {A : Type 0} → Result A Refusal → ℕ → ℕ

@@ -1,4 +1,4 @@
--- What is known of a closing that is accepted, of its record, store and marks: by numbers 1 to 3 and 40 to 45, and by the limits of a record
+-- What is known of a closing that is accepted, of its record, store and marks: by numbers 1 to 3 and 40 to 46, and by the limits of a record
 -- that passes 2. The law `settled` gives it; of its hour buffer only the length counts, by `room_there`.
 use Rattle.std.specs.Prelude.{ℕ, ◌≤◌, ◌≡◌, true, List, length}
 use Rattle.calendar.specs.Calendar.{is_month, open_hours}

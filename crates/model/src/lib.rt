@@ -2,7 +2,7 @@
 #![tactic(auto)]
 
 ghost use Rattle.std.specs.Prelude.{◌≡◌};
-ghost use Rattle.model.specs.Model.{without_figures};
+ghost use Rattle.model.specs.Model.{without_figures, only_day};
 ghost use Rattle.model.specs.Refused.{refusal_number, answered};
 
 use record::Record;
@@ -11,8 +11,8 @@ use rules::Figures;
 
 pub mod refusals;
 
-// The number of the refusal, 0 for none; the record after the call; and a closing's ground and figures, else 0. They are
-// numbers as C has them.
+// The number of the refusal, 0 for none; the record after the call; and a closing's ground and figures, else 0, but for the day
+// of a closing refused with 42, 43 or 46. They are numbers as C has them.
 #[repr(C)]
 #[derive(Clone, Copy)]
 pub struct Answer {
@@ -22,7 +22,7 @@ pub struct Answer {
 }
 
 impl Answer {
-    // That of a call that is no closing, or is refused: it has no figures.
+    // That of an opening, or of a call that is no closing: it has no figures.
     pub fn without_figures(refusal: u32, after: Record) -> Answer
         ensures { result ≡ without_figures refusal after }
     {
@@ -40,11 +40,25 @@ impl Answer {
         Answer::without_figures(0, after)
     }
 
-    // A refused call: the record before it comes back.
+    // A refused call that is no closing: the record before it comes back.
     pub fn refused(refusal: Refusal, before: Record) -> Answer
         ensures { result ≡ without_figures (refusal_number refusal) before }
     {
         Answer::without_figures(refusal.number(), before)
+    }
+
+    // A refused closing, with the day whose marks are wrong, 0 for none: the record before it comes back.
+    pub fn refused_on(refusal: Refusal, before: Record, wrong_day: u64) -> Answer
+        ensures { result ≡ record { refusal = refusal_number refusal; after = before; figures = only_day wrong_day } }
+    {
+        Answer {
+            refusal: refusal.number(),
+            after: before,
+            figures: Figures {
+                wrong_day,
+                ..Figures::default()
+            },
+        }
     }
 }
 

@@ -1,4 +1,4 @@
-// Why a call is refused, and the tests that several calls share. A call tests its lowest number first.
+// Why a call is refused, and the tests that several calls share. A call tests its numbers in the order of model/specs/Refusals.antt.
 ghost use Rattle.std.specs.Prelude.{◌≡◌, ℕ, true, false, OnOk};
 ghost use Rattle.validity.specs.Valid.{valid};
 ghost use Rattle.model.specs.Refusals.{refuse, refuse_anyone};
@@ -32,9 +32,10 @@ pub enum Refusal {
     NotMonthMarks = 40,
     UnknownMark = 41,
     TooManyPeakHours = 42,
-    CapacityHours = 43,
+    TooManyCapacityHours = 43,
     HourBufferSize = 44,
     WordAboveLimit = 45,
+    NoCapacityHour = 46,
 }
 
 impl Refusal {

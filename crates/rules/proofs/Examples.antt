@@ -123,10 +123,17 @@ unfolding rules on_billing on_control on_control_past on_tested_past on_past by_
     peak_part peak_rule peak_count working_days capacity_sum capacity_of portion taken spread shares_over apart_at shares_apart stretched figures
 rule_definitions = tt
 
--- FIGURES: ground, volume, capacity, C and d
+-- FIGURES: ground, volume, capacity, C and d; no closing that is accepted has a day whose marks are wrong
 abbrev pub figures_are : ℕ → ℕ → ℕ → ℕ → ℕ → Figures
 figures_are ground volume capacity sum days =
-    record { ground = ground; volume = record { 0 = volume }; capacity = record { 0 = capacity }; sum = record { 0 = sum }; days = days }
+    record {
+      ground = ground;
+      volume = record { 0 = volume };
+      capacity = record { 0 = capacity };
+      sum = record { 0 = sum };
+      days = days;
+      wrong_day = 0;
+    }
 
 -- two days: C 4 + 3 in their capacity hours, of V 12, with 5 in a peak hour that is none; d 2; capacity 7 / 2 rounded half up. Without capacity
 -- hours C, d and capacity are 0. The last hour of 31 days counts

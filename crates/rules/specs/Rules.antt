@@ -159,7 +159,7 @@ rules i = on_billing i i.billing
 unfoldable pub becomes_past : Outcome → Bool
 becomes_past u = eqb u.ground 1 || eqb u.ground 2
 
--- what a closing returns: ground, month volume, C over its hours, d from the marks, and capacity, C/d rounded half up
+-- what a closing returns: ground, month volume, C over its hours, d from the marks, and capacity, C/d rounded half up; no day's marks are wrong
 unfoldable pub figures : Outcome → List ℕ → Figures
 figures u marks =
     record {
@@ -168,8 +168,9 @@ figures u marks =
       capacity = record { 0 = capacity_of (capacity_sum marks u.hours) (days_in marks) };
       sum = record { 0 = capacity_sum marks u.hours };
       days = days_in marks;
+      wrong_day = 0;
     }
 
 -- ground and figures 0
 abbrev pub no_figures : Figures
-no_figures = record { ground = 0; volume = record { 0 = 0 }; capacity = record { 0 = 0 }; sum = record { 0 = 0 }; days = 0 }
+no_figures = record { ground = 0; volume = record { 0 = 0 }; capacity = record { 0 = 0 }; sum = record { 0 = 0 }; days = 0; wrong_day = 0 }

@@ -2,7 +2,8 @@
 ghost use Rattle.std.specs.Prelude.{◌≡◌};
 
 use super::months::{Month, Sheet};
-use super::wording::{call_words, error_words, refusal_words};
+use super::wording::{call_words, error_words, month_name, refusal_words};
+use calendar::Date;
 use line_reader::{Call, Error};
 use text::Buffer;
 
@@ -40,20 +41,32 @@ pub struct Answers<const N: usize> {
 }
 
 impl<const N: usize> Answers<N> {
-    // A call of a line and its answer, whose refusal is a number, as in `Answer`, which crosses C.
-    pub fn put_call(&mut self, line: u64, call: Call, refusal: u32)
+    // A call of a line and its answer, whose refusal is a number, as in `Answer`, which crosses C. A refused closing may have a day
+    // whose marks are wrong, 0 for none, of the month that is open.
+    pub fn put_call(&mut self, line: u64, call: Call, refusal: u32, wrong_day: u64, open: Date)
         ensures { self.new.layout ≡ self.old.layout }
     {
         let words = call_words(call);
         let why = refusal_words(refusal);
         match self.layout.form {
-            Form::Programs => self.put_record(b"call", line, &[call.number(), refusal]),
+            Form::Programs => self.put_record(
+                b"call",
+                line,
+                &[u64::from(call.number()), u64::from(refusal), wrong_day],
+            ),
             Form::People if refusal == 0 => self
                 .text
                 .print(format_args!("line {line}: {words}: accepted\n")),
-            Form::People => self.text.print(format_args!(
+            Form::People if wrong_day == 0 => self.text.print(format_args!(
                 "line {line}: {words}: refused {refusal}, {why}\n"
             )),
+            Form::People => {
+                let Date { year, month } = open;
+                let name = month_name(month);
+                self.text.print(format_args!(
+                    "line {line}: {words}: refused {refusal}, {why}: day {wrong_day}, {wrong_day} {name} {year}\n"
+                ))
+            }
         }
     }
 

@@ -51,6 +51,7 @@ impl Month {
             capacity,
             sum,
             days,
+            ..
         } = self.figures;
         let why = self.why;
         [

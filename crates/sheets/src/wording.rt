@@ -93,9 +93,10 @@ pub(crate) fn refusal_words(refusal: u32) -> &'static str {
         40 => "there are not as many marks as the month has hours",
         41 => "a mark is above 3",
         42 => "a day has over 16 peak hours",
-        43 => "a day has two or more capacity hours, or peak hours without one",
+        43 => "a day has two or more capacity hours",
         44 => "the hour buffer has not 744 words",
         45 => "a word of the store is above the limit of its row",
+        46 => "a day has peak hours without a capacity hour",
         _ => "",
     }
 }

@@ -14,6 +14,6 @@ ground_6 = ((refl, refl), (refl, refl))
 -- C 4 + 3 in the capacity hours of two days, d 2, capacity 7 / 2 rounded half up
 returned :
     figures (as_read 1 (set (set (zeros 744) 10 4) 34 3)) (set marked 34 2)
-    ≡ record { ground = 1; volume = record { 0 = 7 }; capacity = record { 0 = 4 }; sum = record { 0 = 7 }; days = 2 }
+    ≡ record { ground = 1; volume = record { 0 = 7 }; capacity = record { 0 = 4 }; sum = record { 0 = 7 }; days = 2; wrong_day = 0 }
 unfolding rule_definitions
 returned = refl

@@ -30,5 +30,5 @@ returns c =
     let figures = c.figures_of-figures.ensures in
     closes_with (state a.r a.store.now) a.marks.now (closing_right c.requires.settled) (open_high a.r.date)
     (rw c.counts_of.ensures at c.first_ground-found.ensures) c.capacity_sum-sum.ensures (ap (λ (x : Survey). x.days) c.requires.surveyed)
-    (figures_whole _ _ _ figures.found_value.0 figures.found_value.1 figures.capacity_value figures.sum_value.0 figures.sum_value.1)
+    (figures_whole _ _ _ figures.found_value.0 figures.found_value.1 figures.capacity_value figures.sum_value.0 figures.sum_value.1 figures.no_wrong_day)
     c.is_measured-new.ensures c.point_after-after.ensures c.store_after.ensures
