@@ -308,8 +308,10 @@ static void play_line(size_t line, reader *in) {
         return;
     }
     record = a.after;
-    if (a.refusal) printf("%zu refused %" PRIu32 "\n", line, a.refusal), refused++;
-    else printf("%zu ok\n", line), accepted++;
+    if (a.refusal) printf("%zu refused %" PRIu32, line, a.refusal), refused++;
+    else printf("%zu ok", line), accepted++;
+    if (a.figures.wrong_day) printf(" day %" PRIu64, a.figures.wrong_day);
+    printf("\n");
     if (does == close_month && !a.refusal) print_closing(month, a.figures);
     print_point();
 }

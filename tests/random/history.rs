@@ -98,15 +98,17 @@ fn weights(dice: &mut Dice) -> [u64; KINDS] {
     weights
 }
 
-/// The whole store and an hour buffer of the right length, seldom another; at an opening, of which there are few, more
-/// often.
+/// The whole store and an hour buffer of the right length, seldom another: of the store more often at an opening, of
+/// which there are few, and of the buffer with marks that 46 refuses, to tell that from 44.
 pub fn lend(dice: &mut Dice, act: Act) -> Step {
     let mut step = Step::new(act);
     if dice.below(if step.is_opening() { 12 } else { 150 }) == 0 {
         step.lent = dice.pick(&[0, 1, ROW, STORE - 1, STORE + 1, STORE + SPARE]);
     }
-    if matches!(step.act, Act::Call(Call::Close { .. })) && dice.below(40) == 0 {
-        step.room = dice.pick(&[0, 1, 672, ROW - 1, ROW + 1, ROW + SPARE]);
+    if let Act::Call(Call::Close { marks }) = &step.act {
+        if dice.below(if values::has_peaks_alone(marks) { 5 } else { 40 }) == 0 {
+            step.room = dice.pick(&[0, 1, 672, ROW - 1, ROW + 1, ROW + SPARE]);
+        }
     }
     step
 }

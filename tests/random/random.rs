@@ -85,7 +85,7 @@ fn play_forged(table: &mut Table, dice: &mut Dice) -> Result<(), String> {
         for _ in 0..dice.from_to(1, 3) {
             let record = &table.sides.record;
             let closing = dice.percent(60);
-            let act = if closing { history::closing(dice, record, 10) } else { history::any_call(dice, record) };
+            let act = if closing { history::closing(dice, record, 15) } else { history::any_call(dice, record) };
             let step = history::lend(dice, act);
             table.play(step)?;
         }

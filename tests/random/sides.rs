@@ -5,7 +5,7 @@ use crate::kernel;
 use crate::raw::{self, Figures, Kw, Kwh};
 use crate::reference::book::Book;
 use crate::reference::calls::{Call, Opening};
-use crate::reference::point::{self, Closed, Record};
+use crate::reference::point::{self, Closed, Record, Refusal};
 use crate::reference::rules::Outcome;
 use std::fmt::Debug;
 use std::panic::{catch_unwind, AssertUnwindSafe};
@@ -19,10 +19,15 @@ pub const SPARE: usize = 16;
 pub struct Met {
     /// The refusal, 0 for none.
     pub number: u32,
+    /// The day that a refused closing names, 0 for none.
+    pub wrong_day: u64,
     pub closed: Option<Closed>,
     /// The reference's record before the step.
     pub before: Record,
 }
+
+/// What the reference answers a call.
+type Expected = Result<Option<Closed>, Refusal>;
 
 /// The list of demand 3 since its accepted opening.
 struct List {
@@ -102,15 +107,16 @@ impl Sides {
     /// Makes the step on both sides, or says what differs.
     pub fn step(&mut self, step: &Step) -> Result<Met, String> {
         let before = self.record.clone();
-        let (number, closed) = match &step.act {
-            Act::Open(opening) => (self.open(opening, step.lent)?, None),
+        let answer = match &step.act {
+            Act::Open(opening) => self.open(opening, step.lent)?,
             Act::Call(call) => self.call(call, step)?,
             Act::Forge(forged) => {
                 self.forge(forged);
-                (0, None)
+                Ok(None)
             }
         };
-        Ok(Met { number, closed, before })
+        let Refusal { number, wrong_day } = answer.err().unwrap_or(0.into());
+        Ok(Met { number, wrong_day, closed: answer.ok().flatten(), before })
     }
 
     /// Both sides get the record, and a store of 0 but for the words. The list of demand 3 ends here.
@@ -126,7 +132,7 @@ impl Sides {
         self.list = None;
     }
 
-    fn open(&mut self, opening: &Opening, lent: usize) -> Result<u32, String> {
+    fn open(&mut self, opening: &Opening, lent: usize) -> Result<Expected, String> {
         let answer = kernel::open(opening, &mut self.kernel_store[..lent]);
         let expected = point::open(&mut self.record, &mut self.store[..lent], opening);
         let number = expected.err().unwrap_or(0);
@@ -137,25 +143,24 @@ impl Sides {
         self.compare_words(number)?;
         self.list =
             (number == 0).then(|| List { book: Book::new(opening), handed: 0, volumes: 0, rows: vec![0; 12 * ROW] });
-        Ok(number)
+        Ok(expected.map(|()| None).map_err(Refusal::from))
     }
 
-    fn call(&mut self, call: &Call, step: &Step) -> Result<(u32, Option<Closed>), String> {
+    fn call(&mut self, call: &Call, step: &Step) -> Result<Expected, String> {
         let (given, t) = (self.kernel, self.record.t());
         let (store, hours) = (&mut self.kernel_store[..step.lent], &mut self.kernel_hours[..step.room]);
         let answer = kernel::call(given, store, hours, call);
         let (store, hours) = (&mut self.store[..step.lent], &mut self.hours[..step.room]);
         let expected = point::apply(&mut self.record, store, hours, call);
-        let number = expected.err().unwrap_or(0);
+        let number = expected.err().map_or(0, |refusal| refusal.number);
         same("refusal", answer.refusal, number)?;
         let after = if number == 0 { kernel::as_raw(&self.record) } else { given };
         same("record", answer.after, after)?;
-        let closed = expected.ok().flatten();
-        same("figures", answer.figures, closed.map_or(Figures::default(), figures))?;
+        same("figures", answer.figures, figures(expected))?;
         self.kernel = answer.after;
         self.compare_words(number)?;
         self.follow(call, (number == 0).then_some(t), answer.figures)?;
-        Ok((number, closed))
+        Ok(expected)
     }
 
     /// Stores and hour buffers agree, and a refused call left the kernel's as they were.
@@ -198,13 +203,19 @@ impl Sides {
     }
 }
 
-fn figures(closed: Closed) -> Figures {
-    Figures {
-        ground: closed.ground,
-        volume: Kwh(closed.volume),
-        capacity: Kw(closed.capacity as u32),
-        sum: Kwh(closed.capacity_sum),
-        days: closed.working_days,
+/// All 0, but for those of an accepted closing and the day of a refused one.
+fn figures(answer: Expected) -> Figures {
+    match answer {
+        Ok(Some(closed)) => Figures {
+            ground: closed.ground,
+            volume: Kwh(closed.volume),
+            capacity: Kw(closed.capacity as u32),
+            sum: Kwh(closed.capacity_sum),
+            days: closed.working_days,
+            wrong_day: 0,
+        },
+        Ok(None) => Figures::default(),
+        Err(refusal) => Figures { wrong_day: refusal.wrong_day, ..Figures::default() },
     }
 }
 
@@ -215,5 +226,6 @@ fn figures_of(outcome: &Outcome) -> Figures {
         capacity: Kw(outcome.capacity as u32),
         sum: Kwh(outcome.capacity_sum),
         days: outcome.working_days,
+        wrong_day: 0,
     }
 }

@@ -3,14 +3,16 @@
 use crate::case::{Act, Step};
 use crate::reference::calls::{Call, Opening};
 use crate::reference::point::{Closed, Record, BILLING, CONTROL};
-use crate::reference::rules::{days_of, hours_of, neighbour_volume, peak_hours, year_and_month, Contract, BIG_LOAD};
-use crate::sides::{Met, Sides, ROW};
+use crate::reference::rules::{
+    days_of, hours_of, is_capacity, neighbour_volume, peak_hours, year_and_month, Contract, BIG_LOAD,
+};
+use crate::sides::{Met, Sides, ROW, STORE};
 
 /// The numbers of document 01, and of the requests of document 02.
-const NUMBERS: [usize; 25] =
-    [1, 2, 3, 10, 11, 12, 13, 14, 15, 20, 21, 22, 23, 24, 30, 31, 32, 33, 34, 40, 41, 42, 43, 44, 45];
+const NUMBERS: [usize; 26] =
+    [1, 2, 3, 10, 11, 12, 13, 14, 15, 20, 21, 22, 23, 24, 30, 31, 32, 33, 34, 40, 41, 42, 43, 44, 45, 46];
 
-const SITUATIONS: [&str; 58] = [
+const SITUATIONS: [&str; 80] = [
     "opening in January to April 2014",
     "opening on basis 1",
     "opening on basis 2",
@@ -69,6 +71,28 @@ const SITUATIONS: [&str; 58] = [
     "closing of an integral meter with P of 670 or more on basis 1",
     "closing of an integral meter with P of 670 or more on basis 2",
     "closing of an integral meter with P of 670 or more on basis 3",
+    "42 on the first day",
+    "42 on a middle day",
+    "42 on the last day",
+    "43 on the first day",
+    "43 on a middle day",
+    "43 on the last day",
+    "46 on the first day",
+    "46 on a middle day",
+    "46 on the last day",
+    "42 with two or more such days",
+    "43 with two or more such days",
+    "46 with two or more such days",
+    "42 with a day of 43 before",
+    "42 with a day of 46 before",
+    "43 with a day of 46 before",
+    "42 on a day of 43",
+    "42 on a day of 46",
+    "46 where 44 applies too",
+    "46 where 45 applies too",
+    "closing refused with 1 to 3 that has a day of 42, 43 or 46",
+    "closing refused with 40 that has a day of 42, 43 or 46",
+    "closing refused with 41 that has a day of 42, 43 or 46",
 ];
 
 #[derive(Clone)]
@@ -76,7 +100,7 @@ pub struct Tally {
     pub calls: u64,
     pub histories: u64,
     grounds: [u64; 10],
-    numbers: [u64; 46],
+    numbers: [u64; 47],
     /// By the days of the past and of the month, from 28.
     lengths: [[u64; 4]; 4],
     situations: [u64; SITUATIONS.len()],
@@ -88,7 +112,7 @@ impl Tally {
             calls: 0,
             histories: 0,
             grounds: [0; 10],
-            numbers: [0; 46],
+            numbers: [0; 47],
             lengths: [[0; 4]; 4],
             situations: [0; SITUATIONS.len()],
         }
@@ -164,7 +188,9 @@ fn situations(step: &Step, met: &Met, sides: &Sides) -> [bool; SITUATIONS.len()]
         Act::Call(Call::Close { marks }) => {
             if let Some(closed) = &met.closed {
                 flags[32..55].copy_from_slice(&of_closing(marks, closed, &met.before, sides));
-                flags[55..].copy_from_slice(&big_integral_on(&met.before.contract));
+                flags[55..58].copy_from_slice(&big_integral_on(&met.before.contract));
+            } else {
+                flags[58..].copy_from_slice(&of_wrong_days(marks, step, met, sides));
             }
         }
         Act::Call(call) if met.number == 0 => flags[26..32].copy_from_slice(&of_call(call, met, sides)),
@@ -280,6 +306,50 @@ fn of_closing(marks: &[u8], closed: &Closed, before: &Record, sides: &Sides) -> 
         matches!(ground, 4 | 6) && past.is_some_and(|(month, _)| half_by_past(closed.volume, month, t, sides)),
         peak_rule && half_in_peaks(closed.volume, peaks, before.contract.kilowatts(), t),
         ground == 9 && has_half(closed.volume, &vec![1; t]),
+    ]
+}
+
+/// Whether a day has the fault of 42, of 43 and of 46.
+fn faults(day: &[u8]) -> [bool; 3] {
+    let peaks = peak_hours(day);
+    let capacity_hours = day.iter().filter(|mark| is_capacity(**mark)).count();
+    [peaks > 16, capacity_hours > 1, peaks > 0 && capacity_hours == 0]
+}
+
+/// What a refused closing meets of E8, by the number and day that it is refused with.
+fn of_wrong_days(marks: &[u8], step: &Step, met: &Met, sides: &Sides) -> [bool; 22] {
+    let days: Vec<[bool; 3]> = marks.chunks(24).map(faults).collect();
+    let (first, last) = (met.wrong_day == 1, met.wrong_day == days.len() as u64);
+    let is = |number: u32| met.number == number;
+    let again = |fault: usize| days.iter().filter(|day| day[fault]).count() > 1;
+    let before = |fault: usize| days.iter().take(met.wrong_day as usize - 1).any(|day| day[fault]);
+    let besides = |fault: usize| days[met.wrong_day as usize - 1][fault];
+    let (past, readings) = sides.store[..STORE].split_at(12 * ROW);
+    let bad_store = past.iter().any(|word| *word > 3_000_000) || readings.iter().any(|word| *word > 1_000_000);
+    let wrong = days.as_flattened().contains(&true);
+    [
+        is(42) && first,
+        is(42) && !first && !last,
+        is(42) && last,
+        is(43) && first,
+        is(43) && !first && !last,
+        is(43) && last,
+        is(46) && first,
+        is(46) && !first && !last,
+        is(46) && last,
+        is(42) && again(0),
+        is(43) && again(1),
+        is(46) && again(2),
+        is(42) && before(1),
+        is(42) && before(2),
+        is(43) && before(2),
+        is(42) && besides(1),
+        is(42) && besides(2),
+        is(46) && step.room != ROW,
+        is(46) && bad_store,
+        (is(1) || is(2) || is(3)) && wrong,
+        is(40) && wrong,
+        is(41) && wrong,
     ]
 }
 

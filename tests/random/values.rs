@@ -275,41 +275,76 @@ pub fn marks(dice: &mut Dice, t: usize) -> Vec<u8> {
     marks
 }
 
-/// Marks with one to three things wrong.
+/// Marks with one to three things wrong, now and then of one kind, and some of another length.
 pub fn bad_marks(dice: &mut Dice, t: usize) -> Vec<u8> {
     let mut marks = marks(dice, t);
-    for _ in 0..dice.from_to(1, 3) {
-        let start = 24 * dice.below(t as u64 / 24) as usize;
-        let day = &mut marks[start..start + 24];
-        match dice.below(6) {
-            0 => day[dice.below(24) as usize] = dice.pick(&[4, 5, 128, 255]),
-            1 | 2 => spoil_peaks(dice, day),
-            3 => {
-                let first = dice.below(23) as usize;
-                (day[first], day[first + 1]) = (dice.pick(&[2, 3]), dice.pick(&[2, 3]));
-            }
-            4 => {
-                day.fill(0);
-                day[dice.below(24) as usize] = 1;
-            }
-            _ if marks.len() == t => {
-                let length = other_length(dice, t);
-                marks.resize(length, 0);
-                return marks;
-            }
-            _ => {}
-        }
+    let only = dice.percent(40).then(|| dice.below(WRONG_KINDS));
+    for _ in 0..dice.pick(&[1, 1, 2, 3]) {
+        let kind = only.unwrap_or_else(|| dice.below(WRONG_KINDS));
+        let start = 24 * place_of_day(dice, t / 24);
+        spoil_day(dice, kind, &mut marks[start..start + 24]);
+    }
+    if dice.percent(15) {
+        marks.resize(other_length(dice, t), 0);
     }
     marks
 }
 
-/// Seventeen or more peak hours in the day, and its capacity hour where it had one.
+/// A day of the month, counted from 0: often the first or the last.
+fn place_of_day(dice: &mut Dice, days: usize) -> usize {
+    match dice.below(6) {
+        0 => 0,
+        1 => days - 1,
+        _ => dice.below(days as u64) as usize,
+    }
+}
+
+/// How many kinds of wrong days there are, by how often each comes.
+const WRONG_KINDS: u64 = 12;
+
+fn spoil_day(dice: &mut Dice, kind: u64, day: &mut [u8]) {
+    match kind {
+        0 => day[dice.below(24) as usize] = dice.pick(&[4, 5, 128, 255]),
+        1..=3 => spoil_peaks(dice, day),
+        4..=6 => spoil_capacity(dice, day),
+        _ => leave_peaks_alone(dice, day),
+    }
+}
+
+/// Seventeen or more peak hours in the day; of capacity hours most often one, or those that it had, or two more.
 fn spoil_peaks(dice: &mut Dice, day: &mut [u8]) {
     let peaks = dice.pick(&[17, 17, 18, 24]);
     for hour in day.iter_mut().take(peaks) {
         *hour |= 1;
     }
-    if dice.percent(70) && !day.iter().any(|mark| *mark >= 2) {
-        day[0] |= 2;
+    match dice.below(10) {
+        0..=2 => {}
+        3 | 4 => spoil_capacity(dice, day),
+        _ if day.iter().any(|mark| *mark >= 2) => {}
+        _ => day[0] |= 2,
     }
+}
+
+/// Two capacity hours in the day or, where it had one, now and then three; its peak hours stay.
+fn spoil_capacity(dice: &mut Dice, day: &mut [u8]) {
+    let first = dice.below(23) as usize;
+    let second = if dice.percent(50) { first + 1 } else { dice.from_to(first as u64 + 1, 23) as usize };
+    day[first] |= 2;
+    day[second] |= 2;
+}
+
+/// Peak hours without a capacity hour: those that the day has, or one, or 16.
+fn leave_peaks_alone(dice: &mut Dice, day: &mut [u8]) {
+    day.iter_mut().for_each(|mark| *mark &= 1);
+    let peaks = dice.pick(&[0, 1, 16]);
+    if peaks > 0 || day.iter().all(|mark| *mark == 0) {
+        day.fill(0);
+        let first = dice.below(25 - peaks.max(1)) as usize;
+        day[first..][..peaks.max(1) as usize].fill(1);
+    }
+}
+
+/// Whether a day has peak hours and no capacity hour.
+pub fn has_peaks_alone(marks: &[u8]) -> bool {
+    marks.chunks(24).any(|day| day.contains(&1) && !day.iter().any(|mark| *mark >= 2))
 }

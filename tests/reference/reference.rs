@@ -1,6 +1,6 @@
 // Reference program for document 01, "Estimated consumption at a delivery point", and
-// requests E2, "The odd kWh drifts to the month's end", and E3, "No integral meter on big loads",
-// of document 02.
+// requests E2, "The odd kWh drifts to the month's end", E3, "No integral meter on big loads", and
+// E8, "Which day's marks are wrong", of document 02.
 //
 // Two accounts of the specification stand here side by side:
 //   point  a record and a store of 10,416 words, changed call by call;
@@ -514,9 +514,10 @@ pub mod rules {
 }
 
 /// The point: a record and a store, each call as specified, with every refusal number.
-/// A refusal is Err(number). Checks come first and in the order of their numbers, changes after
-/// them, so that a refused call leaves record, store and hour buffer as they were; only a refused
-/// opening makes the record zeros.
+/// A refusal is Err(number); that of a closing, and of `apply`, is Err(Refusal), which has the day
+/// too. Checks come first and in the order of their numbers, but 46 before 44, changes after them,
+/// so that a refused call leaves record, store and hour buffer as they were; only a refused opening
+/// makes the record zeros.
 #[forbid(unsafe_code)]
 #[allow(dead_code)]
 pub mod point {
@@ -594,6 +595,21 @@ pub mod point {
         pub capacity_sum: u64,
         pub working_days: u64,
         pub capacity: u64,
+    }
+
+    /// Why a call was refused: the number, and the day of which "with 42, 43 and the new number the
+    /// closing returns the first such day, counted from 1; otherwise that figure is 0" (02, E8).
+    #[derive(Clone, Copy, Debug, PartialEq, Eq)]
+    pub struct Refusal {
+        pub number: u32,
+        pub wrong_day: u64,
+    }
+
+    /// Every other number: "otherwise that figure is 0" (reading 29).
+    impl From<u32> for Refusal {
+        fn from(number: u32) -> Refusal {
+            Refusal { number, wrong_day: 0 }
+        }
     }
 
     fn refuse_if(condition: bool, number: u32) -> Result<(), u32> {
@@ -875,19 +891,30 @@ pub mod point {
         Ok(())
     }
 
-    // ---- Settlement, closing: 40 to 45 ----
+    // ---- Settlement, closing: 40 to 46 ----
 
-    /// "40 not T marks; 41 mark above 3; 42 over 16 peak hours in a day; 43 two or more capacity
-    /// hours in a day, or peak hours without one"
-    fn check_marks(marks: &[u8], t: usize) -> Result<(), u32> {
+    /// "40 not T marks; 41 mark above 3; 42 over 16 peak hours in a day"; "43 now means two or more
+    /// capacity hours in a day, and peak hours without one has its own number. ... (New: 46, checked
+    /// after 43 and before 44, an exception to the lowest number.)" (02, E8; readings 19 and 28)
+    fn check_marks(marks: &[u8], t: usize) -> Result<(), Refusal> {
         let capacity_hours = |day: &[u8]| day.iter().filter(|m| is_capacity(**m)).count();
-        let badly_marked = |day: &[u8]| {
-            capacity_hours(day) >= 2 || (peak_hours(day) > 0 && capacity_hours(day) == 0)
-        };
         refuse_if(marks.len() != t, 40)?;
         refuse_if(marks.iter().any(|m| *m > 3), 41)?;
-        refuse_if(marks.chunks(24).any(|day| peak_hours(day) > 16), 42)?;
-        refuse_if(marks.chunks(24).any(badly_marked), 43)
+        refuse_first_day(marks, |day| peak_hours(day) > 16, 42)?;
+        refuse_first_day(marks, |day| capacity_hours(day) >= 2, 43)?;
+        refuse_first_day(marks, |day| peak_hours(day) > 0 && capacity_hours(day) == 0, 46)
+    }
+
+    /// "the closing returns the first such day, counted from 1"
+    fn refuse_first_day(
+        marks: &[u8],
+        is_wrong: impl Fn(&[u8]) -> bool,
+        number: u32,
+    ) -> Result<(), Refusal> {
+        match marks.chunks(24).position(is_wrong) {
+            Some(before) => Err(Refusal { number, wrong_day: before as u64 + 1 }),
+            None => Ok(()),
+        }
     }
 
     /// "45 a word above 3,000,000 in rows 0 to 11, or above 1,000,000 in 12 or 13" (reading 12).
@@ -950,7 +977,7 @@ pub mod point {
         store: &mut [u32],
         buffer: &mut [u32],
         marks: &[u8],
-    ) -> Result<Closed, u32> {
+    ) -> Result<Closed, Refusal> {
         check_anyone(record, store)?;
         check_marks(marks, record.t())?;
         refuse_if(buffer.len() != ROW, 44)?;
@@ -1007,7 +1034,7 @@ pub mod point {
         store: &mut [u32],
         buffer: &mut [u32],
         call: &Call,
-    ) -> Result<Option<Closed>, u32> {
+    ) -> Result<Option<Closed>, Refusal> {
         match call {
             Call::BillingHours(hours) => billing_hours(record, store, hours)?,
             Call::BillingVolume(volume) => billing_volume(record, store, *volume)?,
@@ -1054,8 +1081,8 @@ pub mod book {
             Book { opening: opening.clone(), entries: Vec::new(), outcomes: Vec::new() }
         }
 
-        /// One call's arguments and whether it was accepted. "A refused call adds nothing." For an
-        /// accepted closing the book gives what it worked out.
+        /// One call's arguments and whether it was accepted. "A refused call adds nothing." (reading
+        /// 30) For an accepted closing the book gives what it worked out.
         pub fn feed(&mut self, call: &Call, accepted: bool) -> Option<&Outcome> {
             if !accepted {
                 return None;
@@ -1335,7 +1362,7 @@ pub mod text {
 pub mod player {
     use super::book::Book;
     use super::calls::{Call, Opening};
-    use super::point::{self, Closed, Record};
+    use super::point::{self, Closed, Record, Refusal};
     use super::rules::{hours_of, Outcome, ROW};
     use super::text::{self, Step};
     use std::fmt::Write;
@@ -1388,28 +1415,28 @@ pub mod player {
                 }
                 Err(refusal) => {
                     self.refused += 1;
-                    let _ = writeln!(out, "{number} refused {refusal}");
+                    let _ = writeln!(out, "{}", refusal_line(number, refusal));
                 }
             }
             let _ = writeln!(out, "{}", state_line(&self.record, &self.store));
             Ok(())
         }
 
-        fn open(&mut self, opening: &Opening) -> Result<(), u32> {
+        fn open(&mut self, opening: &Opening) -> Result<(), Refusal> {
             let answer = point::open(&mut self.record, &mut self.store, opening);
             self.book = answer.is_ok().then(|| Book::new(opening));
             self.handed_out = 0;
-            answer
+            Ok(answer?)
         }
 
         /// Any other call. The inner result is the point's answer: the extra lines of a closing, or
-        /// the refusal number; the outer one fails if point and book disagree.
+        /// the refusal; the outer one fails if point and book disagree.
         fn call(
             &mut self,
             call: &Call,
             words: usize,
             out: &mut String,
-        ) -> Result<Result<Option<String>, u32>, Stop> {
+        ) -> Result<Result<Option<String>, Refusal>, Stop> {
             let mut buffer = vec![7u32; words];
             let (year, month) = (self.record.year, self.record.month);
             let answer = point::apply(&mut self.record, &mut self.store, &mut buffer, call);
@@ -1456,6 +1483,14 @@ pub mod player {
         ];
         let failed: Vec<&str> = checks.iter().filter(|c| !c.1).map(|c| c.0).collect();
         failed.join(", ")
+    }
+
+    /// "LINE refused NUMBER", and "LINE refused NUMBER day DAY" where the refusal has a day.
+    fn refusal_line(line: usize, refusal: Refusal) -> String {
+        match refusal.wrong_day {
+            0 => format!("{line} refused {}", refusal.number),
+            day => format!("{line} refused {} day {day}", refusal.number),
+        }
     }
 
     fn closing_lines(year: u32, month: u32, closed: &Closed, buffer: &[u32], t: usize) -> String {
@@ -1583,7 +1618,7 @@ mod tests {
     use super::book::Book;
     use super::calls::{Call, Opening};
     use super::player::{play, Player, Stop};
-    use super::point::{self, Record, BILLING, CONTROL, NEIGHBOUR_1, STORE};
+    use super::point::{self, Record, Refusal, BILLING, CONTROL, NEIGHBOUR_1, STORE};
     use super::rules::*;
 
     // ---- The table of examples ----
@@ -1793,8 +1828,8 @@ mod tests {
 
     // ---- Helpers ----
 
-    fn ok<T>(answer: Result<T, u32>) -> T {
-        answer.unwrap_or_else(|number| panic!("refused {}", number))
+    fn ok<T>(answer: Result<T, impl Into<Refusal>>) -> T {
+        answer.unwrap_or_else(|refusal| panic!("refused: {:?}", refusal.into()))
     }
 
     fn contract_of_40_kw(billing: u32, control: u32) -> Opening {
@@ -1821,16 +1856,23 @@ mod tests {
         ok(point::close(record, store, &mut [7; 744], &marks))
     }
 
-    /// Asserts that a call is refused with this number and changes nothing.
+    /// Asserts that a call is refused with this number and no day, and changes nothing.
     fn refuses(record: &Record, store: &[u32], call: Call, number: u32) {
         refuses_with(record, store, 744, call, number)
     }
 
-    fn refuses_with(record: &Record, store: &[u32], words: usize, call: Call, number: u32) {
+    /// The same of a closing with an hour buffer of so many words; it may be a number with a day.
+    fn refuses_with(
+        record: &Record,
+        store: &[u32],
+        words: usize,
+        call: Call,
+        refusal: impl Into<Refusal>,
+    ) {
         let (mut record_after, mut store_after) = (record.clone(), store.to_vec());
         let mut buffer = vec![7; words];
         let answer = point::apply(&mut record_after, &mut store_after, &mut buffer, &call);
-        assert_eq!(answer, Err(number), "{call:?}");
+        assert_eq!(answer, Err(refusal.into()), "{call:?}");
         assert_eq!(&record_after, record);
         assert_eq!(store_after, store);
         assert_eq!(buffer, vec![7; words]);
@@ -2223,30 +2265,196 @@ mod tests {
         refuses(&record, &store, Call::Permission, 34);
     }
 
+    /// Marks of so many days, 0 but for the first hours of the days named, counted from 1.
+    fn marked(days: usize, first_hours: &[(usize, &[u8])]) -> Vec<u8> {
+        let mut marks = vec![0; 24 * days];
+        for (day, hours) in first_hours {
+            marks[24 * (day - 1)..][..hours.len()].copy_from_slice(hours);
+        }
+        marks
+    }
+
+    /// A closing of January with such marks.
+    fn close_with(first_hours: &[(usize, &[u8])]) -> Call {
+        Call::Close { marks: marked(31, first_hours) }
+    }
+
+    fn on_day(number: u32, wrong_day: u64) -> Refusal {
+        Refusal { number, wrong_day }
+    }
+
+    /// Days that nothing refuses: the most peak hours, and a capacity hour alone.
+    const GOOD: [&[u8]; 2] = [&[3, 1, 1, 1, 1, 1, 1, 1, 1, 1, 1, 1, 1, 1, 1, 1], &[2]];
+    /// Days with the faults of 42, 43 and 46, one each.
+    const TOO_MANY_PEAKS: &[u8] = &[3, 1, 1, 1, 1, 1, 1, 1, 1, 1, 1, 1, 1, 1, 1, 1, 1];
+    const TWO_CAPACITY_HOURS: &[u8] = &[2, 3];
+    const NO_CAPACITY_HOUR: &[u8] = &[1];
+    const WRONG_DAYS: [(u32, &[u8]); 3] =
+        [(42, TOO_MANY_PEAKS), (43, TWO_CAPACITY_HOURS), (46, NO_CAPACITY_HOUR)];
+
     #[test]
-    fn numbers_40_to_45_closing() {
+    fn numbers_40_to_46_closing() {
         let (record, mut store) = opened(1, 2);
-        let close = |first_day: &[u8]| {
-            let mut marks = vec![0; 744];
-            marks[..first_day.len()].copy_from_slice(first_day);
-            Call::Close { marks }
-        };
         refuses_with(&record, &store, 0, Call::Close { marks: vec![9; 743] }, 40);
-        refuses_with(&record, &store, 0, close(&[4; 20]), 41);
-        refuses_with(&record, &store, 0, close(&[1; 17]), 42);
-        refuses_with(&record, &store, 0, close(&[1; 16]), 43);
-        refuses_with(&record, &store, 0, close(&[2, 2]), 43);
-        refuses_with(&record, &store, 743, close(&[0]), 44);
+        refuses_with(&record, &store, 0, close_with(&[(1, &[4; 20])]), 41);
+        refuses_with(&record, &store, 0, close_with(&[(1, &[1; 17])]), on_day(42, 1));
+        refuses_with(&record, &store, 0, close_with(&[(1, &[2, 2])]), on_day(43, 1));
+        refuses_with(&record, &store, 0, close_with(&[(1, &[1; 16])]), on_day(46, 1));
+        refuses_with(&record, &store, 743, close_with(&[]), 44);
         for (place, value) in
             [(0, 3_000_001), (8_927, 3_000_001), (8_928, 1_000_001), (10_415, 1_000_001)]
         {
             store[place] = value;
-            refuses(&record, &store, close(&[0]), 45);
+            refuses(&record, &store, close_with(&[]), 45);
             store[place] = value - 1;
         }
-        let mut buffer = [7; 744];
-        let first_days = close(&[3, 1, 1, 1, 1, 1, 1, 1, 1, 1, 1, 1, 1, 1, 1, 1]);
-        assert!(point::apply(&mut record.clone(), &mut store, &mut buffer, &first_days).is_ok());
+        let (mut buffer, good) = ([7; 744], close_with(&[(1, GOOD[0]), (31, GOOD[1])]));
+        assert!(point::apply(&mut record.clone(), &mut store, &mut buffer, &good).is_ok());
+    }
+
+    // ---- The days of 42, 43 and 46 ----
+
+    /// A record whose open month is this one of 2024, and a store of 0.
+    fn month_of_2024(month: u32) -> (Record, Vec<u32>) {
+        let (record, store) = opened(1, 2);
+        (Record { year: 2024, month, ..record }, store)
+    }
+
+    /// One wrong day, the first, the last and each between, in months of 29, 30 and 31 days, and
+    /// good days around it.
+    #[test]
+    fn the_wrong_day_of_a_month() {
+        for (month, days) in [(2, 29), (4, 30), (5, 31)] {
+            let (record, store) = month_of_2024(month);
+            let good: Vec<(usize, &[u8])> = (1..=days).map(|day| (day, GOOD[day % 2])).collect();
+            let good = marked(days, &good);
+            ok(point::close(&mut record.clone(), &mut store.clone(), &mut [7; 744], &good));
+            for (number, wrong) in WRONG_DAYS {
+                for day in 1..=days {
+                    let mut marks = good.clone();
+                    marks[24 * (day - 1)..24 * day].fill(0);
+                    marks[24 * (day - 1)..][..wrong.len()].copy_from_slice(wrong);
+                    let refusal = on_day(number, day as u64);
+                    refuses_with(&record, &store, 744, Call::Close { marks }, refusal);
+                }
+            }
+        }
+    }
+
+    /// Each number is asked of the whole month before the next one, and the day is the first with
+    /// the fault of the number that is returned.
+    #[test]
+    fn the_number_before_the_day() {
+        let (record, store) = opened(1, 2);
+        let refused = |first_hours: &[(usize, &[u8])], number: u32, day: u64| {
+            refuses_with(&record, &store, 744, close_with(first_hours), on_day(number, day));
+        };
+        refused(&[(3, NO_CAPACITY_HOUR), (20, TWO_CAPACITY_HOURS)], 43, 20);
+        refused(&[(1, NO_CAPACITY_HOUR), (30, TWO_CAPACITY_HOURS), (31, TOO_MANY_PEAKS)], 42, 31);
+        refused(&[(1, TWO_CAPACITY_HOURS), (30, NO_CAPACITY_HOUR), (31, TOO_MANY_PEAKS)], 42, 31);
+        refused(&[(5, TOO_MANY_PEAKS), (6, TWO_CAPACITY_HOURS), (7, NO_CAPACITY_HOUR)], 42, 5);
+        for (number, wrong) in WRONG_DAYS {
+            refused(&[(9, wrong), (10, wrong)], number, 9);
+            refused(&[(2, wrong), (16, wrong), (31, wrong)], number, 2);
+        }
+    }
+
+    /// A day may have over 16 peak hours and either of the other faults; it has one of these at
+    /// most. As far as 42 goes, such a day is like any other.
+    #[test]
+    fn a_day_with_two_faults() {
+        let (record, store) = opened(1, 2);
+        let peaks_and_two = [3; 17];
+        let peaks_and_none = [1; 17];
+        for both in [peaks_and_two, peaks_and_none] {
+            let call = close_with(&[(12, &both)]);
+            refuses_with(&record, &store, 744, call, on_day(42, 12));
+            let call = close_with(&[(4, &both), (12, TOO_MANY_PEAKS)]);
+            refuses_with(&record, &store, 744, call, on_day(42, 4));
+        }
+        let call = close_with(&[(2, &peaks_and_none), (3, &peaks_and_two), (1, NO_CAPACITY_HOUR)]);
+        refuses_with(&record, &store, 744, call, on_day(42, 2));
+    }
+
+    /// "checked after 43 and before 44, an exception to the lowest number": 46 also where 44 or 45
+    /// applies, and 42 and 43 as well.
+    #[test]
+    fn the_day_before_buffer_and_store() {
+        let (record, store) = opened(1, 2);
+        for (number, wrong) in WRONG_DAYS {
+            for place in [0, 8_928] {
+                let mut store = store.clone();
+                store[place] = 3_000_001;
+                let call = close_with(&[(31, wrong)]);
+                refuses_with(&record, &store, 744, call.clone(), on_day(number, 31));
+                refuses_with(&record, &store, 743, call, on_day(number, 31));
+            }
+            refuses_with(&record, &store, 0, close_with(&[(8, wrong)]), on_day(number, 8));
+        }
+    }
+
+    /// "otherwise that figure is 0", though days are wrong: 1 to 3, 40 and 41 come before 42.
+    #[test]
+    fn no_day_with_other_numbers() {
+        let (record, store) = opened(1, 2);
+        let over = Record { year: 3000, ..record.clone() };
+        for (_, wrong) in WRONG_DAYS {
+            let call = close_with(&[(2, wrong)]);
+            refuses(&record, &store[1..], call.clone(), 1);
+            refuses(&Record::default(), &store, call.clone(), 2);
+            refuses(&over, &store, call, 3);
+            let marks = marked(30, &[(2, wrong)]);
+            refuses(&record, &store, Call::Close { marks }, 40);
+            refuses(&record, &store, close_with(&[(2, wrong), (31, &[4])]), 41);
+            refuses(&record, &store, close_with(&[(2, wrong), (1, &[4])]), 41);
+        }
+    }
+
+    /// Marks of all kinds but those above 3: each day gets some peak hours and capacity hours, and
+    /// in some days more or fewer than are allowed.
+    fn marks_with_wrong_days(dice: &mut Dice) -> Vec<u8> {
+        let mut marks = vec![0; 744];
+        let wrong = [0, 1, 3, 10][dice.below(4) as usize];
+        let peaks_if_wrong = [16, 24][dice.below(2) as usize];
+        let capacity_if_wrong = 1 + dice.below(3);
+        for day in marks.chunks_mut(24) {
+            let is_wrong = dice.below(31) < wrong;
+            let most_capacity = if is_wrong { capacity_if_wrong } else { 1 };
+            let capacity = dice.below(most_capacity + 1) as usize;
+            let most_peaks = match (is_wrong, capacity) {
+                (true, _) => peaks_if_wrong,
+                (false, 0) => 0,
+                (false, _) => 16,
+            };
+            day[..dice.below(most_peaks + 1) as usize].fill(1);
+            day[20..20 + capacity].iter_mut().for_each(|mark| *mark += 2);
+        }
+        marks
+    }
+
+    /// What is asked of each day by itself, and of the faults found the lowest number, then the
+    /// lowest day.
+    #[test]
+    fn wrong_days_of_random_marks() {
+        let (mut dice, mut met) = (Dice(8), [0; 50]);
+        let (record, store) = opened(1, 2);
+        for _ in 0..5_000 {
+            let marks = marks_with_wrong_days(&mut dice);
+            let mut faults = Vec::new();
+            for (day, hours) in (1..).zip(marks.chunks(24)) {
+                let peaks = hours.iter().filter(|mark| **mark % 2 == 1).count();
+                let capacity = hours.iter().filter(|mark| **mark >= 2).count();
+                faults.extend((peaks >= 17).then_some((42, day)));
+                faults.extend((capacity > 1).then_some((43, day)));
+                faults.extend((peaks > 0 && capacity < 1).then_some((46, day)));
+            }
+            let expected = faults.into_iter().min().map(|(number, day)| on_day(number, day));
+            let (mut record, mut store) = (record.clone(), store.clone());
+            let answer = point::close(&mut record, &mut store, &mut [7; 744], &marks);
+            assert_eq!(answer.err(), expected, "{marks:?}");
+            met[expected.map_or(0, |refusal| refusal.number as usize)] += 1;
+        }
+        assert!([0, 42, 43, 46].iter().all(|number| met[*number] > 200), "{met:?}");
     }
 
     // ---- Turns that a closing takes ----

@@ -541,14 +541,42 @@ impl Author<'_> {
 
     fn bad_marks(&mut self) -> String {
         let days = self.days();
-        match self.dice.below(7) {
+        match self.dice.below(12) {
             0 => format!("{days}*(23*0 {})", self.dice.from(4, 255)),
-            1 => format!("{days}*(3 16*1 7*0)"),
-            2 => format!("{days}*(2 3 22*0)"),
-            3 => format!("{days}*(16*1 8*0)"),
-            4 => "none".to_string(),
-            5 => format!("{} 24*0", self.marks()),
-            _ => format!("{}*0 1 23*0", 24 * (days - 1)),
+            1 => "none".to_string(),
+            2 => format!("{} 24*0", self.marks()),
+            3 => format!("{days}*({})", self.bad_day()),
+            4 => format!("week ({}) ({})", self.marked_day(), self.bad_day()),
+            5 => format!("week ({}) ({})", self.bad_day(), self.marked_day()),
+            6..=8 => {
+                let before = self.dice.number_of(&[0, days - 1, 1, 14, 21]);
+                let behind = days - before - 1;
+                format!("{before}*({}) {} {behind}*({})", self.marked_day(), self.bad_day(), self.marked_day())
+            }
+            _ => {
+                let before = self.dice.from(0, days - 2);
+                let between = self.dice.from(0, days - before - 2);
+                let behind = 24 * (days - before - between - 2);
+                let (first, second) = (self.bad_day(), self.bad_day());
+                format!("{}*0 {first} {between}*({}) {second} {behind}*0", 24 * before, self.marked_day())
+            }
+        }
+    }
+
+    /// A day with over 16 peak hours, or more than one capacity hour, or peak hours without one.
+    fn bad_day(&mut self) -> String {
+        let peaks = self.dice.from(1, 16);
+        let hour = self.dice.from(0, 22);
+        match self.dice.below(9) {
+            0 => "3 16*1 7*0".to_string(),
+            1 => "0 17*1 6*2".to_string(),
+            2 => format!("{}*1 {}*0", peaks + 8, 16 - peaks),
+            3 => format!("{hour}*0 2 3 {}*0", 22 - hour),
+            4 => format!("2 {}*0 2 {hour}*0", 22 - hour),
+            5 => "24*3".to_string(),
+            6 => format!("{hour}*0 1 {}*0", 23 - hour),
+            7 => format!("{}*0 {peaks}*1", 24 - peaks),
+            _ => format!("{peaks}*1 {}*0", 24 - peaks),
         }
     }
 }

@@ -1,13 +1,13 @@
-// What `settle --tab` has to print, read from docs/HISTORY-FILE.md, document 01 and requests E2 and E3 of document 02
-// alone. The point itself is the reference's; tokens, grammar, weekdays and the figures of a sheet are worked out
-// here.
+// What `settle --tab` has to print, read from docs/HISTORY-FILE.md, document 01 and requests E2, E3 and E8 of
+// document 02 alone. The point itself is the reference's, with the day that a refused closing names; tokens, grammar,
+// weekdays and the figures of a sheet are worked out here.
 
 #[allow(dead_code)]
 #[path = "../reference/reference.rs"]
 mod reference;
 
 use reference::calls::{Call, Opening};
-use reference::point::{self, Closed, Record};
+use reference::point::{self, Closed, Record, Refusal};
 use std::sync::OnceLock;
 
 const LINE_LIMIT: usize = 16_384;
@@ -669,10 +669,11 @@ impl Answers {
         self.record("error", [line, column, error]);
     }
 
-    /// Answers a call with its refusal, 0 for an accepted one.
-    fn call(&mut self, line: u64, call: u64, refusal: u32) {
-        *(if refusal == 0 { &mut self.accepted } else { &mut self.refused }) += 1;
-        self.record("call", [line, call, u64::from(refusal)]);
+    /// Answers a call with its refusal and the refusal's day, 0 and 0 for an accepted one.
+    fn call(&mut self, line: u64, call: u64, refusal: Option<Refusal>) {
+        *(if refusal.is_none() { &mut self.accepted } else { &mut self.refused }) += 1;
+        let (number, day) = refusal.map_or((0, 0), |refusal| (refusal.number, refusal.wrong_day));
+        self.record("call", [line, call, u64::from(number), day]);
     }
 }
 
@@ -704,10 +705,12 @@ impl History {
         let before = self.record.clone();
         let mut buffer = [0; 744];
         let answer = match request {
-            Request::Open(opening) => point::open(&mut self.record, &mut self.store, opening).map(|()| None),
+            Request::Open(opening) => {
+                point::open(&mut self.record, &mut self.store, opening).map(|()| None).map_err(Refusal::from)
+            }
             Request::Other(call) => point::apply(&mut self.record, &mut self.store, &mut buffer, call),
         };
-        answers.call(line, request.number(), answer.err().unwrap_or(0));
+        answers.call(line, request.number(), answer.err());
         let (Ok(Some(closed)), Request::Other(Call::Close { marks })) = (&answer, request) else { return };
         let closing =
             Closing { before: &before, marks, closed, rows: &self.store[..744 * 12], total: self.record.total };
@@ -814,8 +817,8 @@ mod tests {
         for line in ["", " \t\r", "#", "  # \u{0} \u{e9} 9999999999999999999"] {
             assert_eq!(said(line.as_bytes()), None);
         }
-        assert_eq!(records(b"\n \n#\n\ndenial", false), ["call\t5\t9\t2"]);
-        assert_eq!(records(b"denial\ndenial\n", false), ["call\t1\t9\t2", "call\t2\t9\t2"]);
+        assert_eq!(records(b"\n \n#\n\ndenial", false), ["call\t5\t9\t2\t0"]);
+        assert_eq!(records(b"denial\ndenial\n", false), ["call\t1\t9\t2\t0", "call\t2\t9\t2\t0"]);
     }
 
     #[test]
@@ -848,7 +851,7 @@ mod tests {
     #[test]
     fn error_1_a_long_line() {
         let text = [vec![b'#'; 16_385], b"\ndenial".to_vec()].concat();
-        assert_eq!(records(&text, false), ["error\t1\t16385\t1", "call\t2\t9\t2"]);
+        assert_eq!(records(&text, false), ["error\t1\t16385\t1", "call\t2\t9\t2\t0"]);
     }
 
     #[test]
@@ -1066,7 +1069,8 @@ mod tests {
     #[test]
     fn week_where_no_point_is_open() {
         let text = b"close week (24*0) (24*0)\nopen 2023-13\nclose 4090*0 0*week\nclose 4048*0 week (24*0) (24*0)";
-        assert_eq!(records(text, false), ["call\t1\t11\t2", "call\t2\t1\t10", "error\t3\t16\t19", "call\t4\t11\t2"]);
+        let expected = ["call\t1\t11\t2\t0", "call\t2\t1\t10\t0", "error\t3\t16\t19", "call\t4\t11\t2\t0"];
+        assert_eq!(records(text, false), expected);
     }
 
     #[test]
@@ -1075,9 +1079,41 @@ mod tests {
                     close 3353*0 week (24*0) (24*0)\ndenial";
         let records = records(text.as_bytes(), false);
         let sheet = "sheet\t2\t2999\t12\t744\t8\t166\t744\t0\t0\t1\t0\t0\t0\t0\t0\t0\t0\t1\t0\t0\t0\t744";
-        let expected =
-            ["call\t1\t1\t0", "call\t2\t11\t0", sheet, "call\t3\t11\t3", "error\t4\t31\t18", "call\t5\t9\t3"];
-        assert_eq!(records, expected);
+        let [opened, closed] = ["call\t1\t1\t0\t0", "call\t2\t11\t0\t0"];
+        let over = ["call\t3\t11\t3\t0", "error\t4\t31\t18", "call\t5\t9\t3\t0"];
+        assert_eq!(records, [&[opened, closed, sheet], over.as_slice()].concat());
+    }
+
+    // ---- Days of refused closings ----
+
+    /// Refusal and day of the calls behind an opening of February 2024, which has 29 days, the first a Thursday.
+    fn refusals(calls: &[&str]) -> Vec<(u64, u64)> {
+        let text = format!("open 2024-02 billing interval basis agreed power 1\n{}", calls.join("\n"));
+        let records = records(text.as_bytes(), false);
+        let numbers = |call: &str| call.split('\t').map(|number| number.parse().unwrap()).collect::<Vec<u64>>();
+        let called: Vec<Vec<u64>> = records.iter().filter_map(|r| r.strip_prefix("call\t")).map(numbers).collect();
+        assert!(called.iter().all(|call| call.len() == 4), "{called:?}");
+        called[1..].iter().map(|call| (call[2], call[3])).collect()
+    }
+
+    #[test]
+    fn the_first_wrong_day() {
+        let peaks = ["close 17*1 2 678*0", "close 336*0 3 17*1 342*0", "close 28*(24*0) 3 23*1"];
+        assert_eq!(refusals(&peaks), [(42, 1), (42, 15), (42, 29)]);
+        let capacity = ["close 2*2 694*0", "close 14*(24*0) 22*0 2*3 336*0", "close 28*(24*0) 2 22*0 2"];
+        assert_eq!(refusals(&capacity), [(43, 1), (43, 15), (43, 29)]);
+        let alone = ["close 1 695*0", "close 240*0 1 239*0 1 215*0", "close 695*0 1"];
+        assert_eq!(refusals(&alone), [(46, 1), (46, 11), (46, 29)]);
+        let weeks = ["close week (1 23*0) (24*0)", "close week (24*0) (1 23*0)", "close week (24*0) (24*3)"];
+        assert_eq!(refusals(&weeks), [(46, 1), (46, 3), (42, 3)]);
+    }
+
+    #[test]
+    fn the_day_of_the_number_returned() {
+        let earlier = ["close 1 23*0 2*2 670*0", "close 2*2 22*0 1 647*0 24*1", "close 24*1 24*3 648*0"];
+        assert_eq!(refusals(&earlier), [(43, 2), (42, 29), (42, 1)]);
+        let without = ["close 1 694*0", "close 1 694*0 4", "control volume 1", "close none", "close 696*0", "close 1"];
+        assert_eq!(refusals(&without), [(40, 0), (41, 0), (20, 0), (40, 0), (0, 0), (40, 0)]);
     }
 
     // ---- Sheets ----
@@ -1176,7 +1212,8 @@ mod tests {
     fn files_and_counts() {
         let files = [Some(b"denial\nx\nopen 2023-01 billing 1 basis 1 power 1".to_vec()), None, Some(Vec::new())];
         let printed = String::from_utf8(answers(&files, false)).unwrap();
-        let expected = "file\t1\ncall\t1\t9\t2\nerror\t2\t1\t3\ncall\t3\t1\t0\nfile\t2\nerror\t0\t0\t0\nfile\t3\n\
+        let expected =
+            "file\t1\ncall\t1\t9\t2\t0\nerror\t2\t1\t3\ncall\t3\t1\t0\t0\nfile\t2\nerror\t0\t0\t0\nfile\t3\n\
                         end\t2\t1\t1\t2\n";
         assert_eq!(printed, expected);
         assert_eq!(answers(&[], false), b"end\t0\t0\t0\t0\n");

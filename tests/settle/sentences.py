@@ -44,7 +44,7 @@ def errors():
     return {int(number): said for number, said in re.findall(r"^\| (\d+) \| ([^|]*) \|[^|]*\|$", page, re.M)}
 
 
-for function, expected, size in (("refusal_words", refusals(), 25), ("ground_words", grounds(), 9), ("error_words", errors(), 20)):
+for function, expected, size in (("refusal_words", refusals(), 26), ("ground_words", grounds(), 9), ("error_words", errors(), 20)):
     assert len(expected) == size, f"{function}: {len(expected)} sentences, not {size}"
     said = spoken(function)
     for number in sorted(set(said) | set(expected)):

@@ -1,8 +1,10 @@
 #!/usr/bin/env python3
-"""sheets.py SETTLE FILE..: the sheets for people say what the records for programs say.
+"""sheets.py SETTLE FILE..: the answers for people say what the records for programs say.
 
-Plays each file both ways, with the hours, and compares of every closed month every figure of its sheet, each hour of the
-table, and the bars of the chart, which are the days in five steps of the largest, rounded up.
+Plays each file both ways and compares of every call the line, the call and the refusal with its number, and the day and
+date that a closing refused with 42, 43 or 46 names behind its sentence, and no other call; each of the three is met in one
+of the files. Plays them again with the hours, and compares of every closed month every figure of its sheet, each hour of
+the table, and the bars of the chart, which are the days in five steps of the largest, rounded up.
 """
 import re
 import subprocess
@@ -15,6 +17,11 @@ Month = namedtuple(
     "line year month T ground clause V reading N P n A d C compared run denials R past_year past_month capacity total",
 )
 NAMES = "January February March April May June July August September October November December".split()
+# the calls by their numbers, from 1
+CALLS = ["open", "billing hours", "billing volume", "control hours", "control volume", "neighbour", "failure", "admission"]
+CALLS += ["denial", "permission", "close"]
+# the refusals that name a day
+DAYS = {42, 43, 46}
 
 
 def played(settle, *words):
@@ -90,12 +97,53 @@ def check(sheet, m, hours):
     assert [int(x) for _, row in rows for x in row.split()] == hours, f"line {m.line}: the table"
 
 
+def opened(file):
+    """The year and month of each line of the file that opens a point."""
+    with open(file, encoding="utf-8", errors="replace") as text:
+        met = ((number, re.match(r"\s*open\s*(\d+)\s*-\s*(\d+)", line, re.I)) for number, line in enumerate(text, 1))
+        return {number: (int(month[1]), int(month[2])) for number, month in met if month}
+
+
+def calls(file, text):
+    """Line, call, refusal and day of each call, and the month that is open before it."""
+    openings, month = opened(file), None
+    for record in (line.split("\t") for line in text.splitlines()):
+        if record[0] == "call":
+            line, call, refusal, day = map(int, record[1:])
+            yield line, CALLS[call - 1], refusal, day, month
+            if call == 1:
+                month = openings[line] if refusal == 0 else None
+        elif record[0] == "sheet":
+            year, closed = int(record[2]), int(record[3])
+            month = (year + closed // 12, closed % 12 + 1)
+
+
+def check_calls(file, answers, text, sentences):
+    """Holds the answers for people against the records. Each number has one sentence, kept from file to file."""
+    said = re.findall(r"^(line \d+: [a-z ]+: (?:accepted|refused \d+, .*))$", answers, re.M)
+    told = list(calls(file, text))
+    assert len(said) == len(told), f"{file}: {len(said)} answers and {len(told)} records"
+    for answer, (line, call, refusal, day, month) in zip(said, told):
+        assert (day > 0) == (refusal in DAYS), f"{file}: line {line}: day {day} with {refusal}"
+        behind = f": day {day}, {day} {date(*month)}" if day else ""
+        if refusal and refusal not in sentences:
+            sentence = answer.partition(f" refused {refusal}, ")[2].removesuffix(behind)
+            assert sentence and ": day " not in sentence, f"{file}: {answer!r}"
+            sentences[refusal] = sentence
+        outcome = f"refused {refusal}, {sentences[refusal]}{behind}" if refusal else "accepted"
+        expected = f"line {line}: {call}: {outcome}"
+        assert answer == expected, f"{file}: {expected!r} was expected, not {answer!r}"
+
+
 settle, files = sys.argv[1], sys.argv[2:]
+sentences = {}
 for file in files:
+    check_calls(file, played(settle, file), played(settle, "--tab", file), sentences)
     sheets = re.split(r"^line \d+: .*\n", played(settle, "--hours", file), flags=re.M)
     sheets = [sheet for sheet in sheets if sheet.startswith("    month")]
     told = records(played(settle, "--tab", "--hours", file))
     assert len(sheets) == len(told), f"{file}: {len(sheets)} sheets and {len(told)} records"
     for sheet, (month, hours) in zip(sheets, told):
         check(sheet, month, hours)
+assert DAYS <= sentences.keys(), f"refused with a day: {sorted(DAYS & sentences.keys())} alone"
 print(f"{len(files)} files")
