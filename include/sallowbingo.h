@@ -8,8 +8,8 @@
  * the calls on one point come one after another.
  *
  * Volumes are whole kWh and powers whole kW. 'Document 01' is the specification
- * with requests E2 and E3 of document 02; T is the hours of the open month, 24
- * times its days. */
+ * with requests E2, E3 and E8 of document 02; T is the hours of the open month,
+ * 24 times its days. */
 #ifndef SALLOWBINGO_H
 #define SALLOWBINGO_H
 
@@ -124,7 +124,8 @@ extern "C" {
 #define SALLOWBINGO_GROUND_POWER 8u
 #define SALLOWBINGO_GROUND_CABLE 9u
 
-/* The number of a refusal. Of those that apply the lowest is returned. */
+/* The number of a refusal. Of those that apply the lowest is returned, but for
+ * NO_CAPACITY_HOUR, 46, which a closing asks before 44 and 45. */
 typedef enum sallowbingo_refusal {
     /* The call is accepted. */
     SALLOWBINGO_REFUSAL_NONE = 0,
@@ -186,7 +187,8 @@ typedef enum sallowbingo_refusal {
     /* A permission comes when there is no denial. */
     SALLOWBINGO_REFUSAL_NO_DENIAL = 34,
 
-    /* Settlement, at the closing. */
+    /* Settlement, at the closing, which asks them in the order 40, 41, 42, 43, 46,
+     * 44, 45. With 42, 43 and 46 wrong_day is the first day with that fault. */
 
     /* There are not T marks. */
     SALLOWBINGO_REFUSAL_MARK_COUNT = 40,
@@ -194,13 +196,15 @@ typedef enum sallowbingo_refusal {
     SALLOWBINGO_REFUSAL_MARK = 41,
     /* A day has over SALLOWBINGO_PEAK_HOURS_MAX peak hours. */
     SALLOWBINGO_REFUSAL_PEAK_HOURS = 42,
-    /* A day has two or more capacity hours, or peak hours without one. */
+    /* A day has two or more capacity hours. */
     SALLOWBINGO_REFUSAL_CAPACITY_HOURS = 43,
     /* The hour buffer is not SALLOWBINGO_ROW words. */
     SALLOWBINGO_REFUSAL_BUFFER_LENGTH = 44,
     /* A word of the store is above SALLOWBINGO_PAST_HOUR_MAX in rows 0 to 11, or
      * above SALLOWBINGO_HOUR_READ_MAX in row 12 or 13. */
-    SALLOWBINGO_REFUSAL_STORE_WORD = 45
+    SALLOWBINGO_REFUSAL_STORE_WORD = 45,
+    /* A day has peak hours without a capacity hour. Asked after 43 and before 44. */
+    SALLOWBINGO_REFUSAL_NO_CAPACITY_HOUR = 46
 } sallowbingo_refusal;
 
 /* STRUCTS. Flags are 1 for yes and 0 for no, and any other value is outside the
@@ -281,13 +285,17 @@ typedef struct {
 
 /* Of an accepted closing, else 0: ground, month volume, capacity, C (the sum of
  * the volumes in the capacity hours) and d (the working days). Capacity is C / d
- * rounded half up, and 0 if d is 0. */
+ * rounded half up, and 0 if d is 0.
+ * Of a closing refused with 42, 43 or 46, else 0: wrong_day, the first day of the
+ * month with the fault of that number, 1 for the month's first. A day that has only
+ * faults of other numbers does not count. */
 typedef struct {
     uint32_t ground;
     sallowbingo_kwh volume;
     sallowbingo_kw capacity;
     sallowbingo_kwh sum;
     uint64_t days;
+    uint64_t wrong_day;
 } sallowbingo_figures;
 
 /* The number of the refusal, a sallowbingo_refusal; the record after the call,
@@ -366,14 +374,15 @@ SALLOWBINGO_OFFSET(sallowbingo_record, past, 72);
 SALLOWBINGO_OFFSET(sallowbingo_record, readings, 128);
 SALLOWBINGO_OFFSET(sallowbingo_record, total, 192);
 
-SALLOWBINGO_SIZE(sallowbingo_figures, 40);
+SALLOWBINGO_SIZE(sallowbingo_figures, 48);
 SALLOWBINGO_OFFSET(sallowbingo_figures, ground, 0);
 SALLOWBINGO_OFFSET(sallowbingo_figures, volume, 8);
 SALLOWBINGO_OFFSET(sallowbingo_figures, capacity, 16);
 SALLOWBINGO_OFFSET(sallowbingo_figures, sum, 24);
 SALLOWBINGO_OFFSET(sallowbingo_figures, days, 32);
+SALLOWBINGO_OFFSET(sallowbingo_figures, wrong_day, 40);
 
-SALLOWBINGO_SIZE(sallowbingo_answer, 248);
+SALLOWBINGO_SIZE(sallowbingo_answer, 256);
 SALLOWBINGO_OFFSET(sallowbingo_answer, refusal, 0);
 SALLOWBINGO_OFFSET(sallowbingo_answer, after, 8);
 SALLOWBINGO_OFFSET(sallowbingo_answer, figures, 208);
@@ -411,10 +420,11 @@ uint32_t sallowbingo_month_days(uint64_t year, uint64_t month);
  * basis is not 2 may be any pointer with any length. The store before an opening
  * and the hour buffer before a closing may hold anything.
  *
- * The lowest number that applies is returned. A refused call leaves every array
- * as it was and answers the record given, with figures 0; a refused opening
- * answers a record of zeros. 'Refusals: 1 to 3' are STORE_LENGTH, RECORD and
- * CALENDAR_OVER. */
+ * The lowest number that applies is returned, but a closing asks 46 before 44 and
+ * 45. A refused call leaves every array as it was and answers the record given; a
+ * refused opening answers a record of zeros. The figures of a refused call are 0,
+ * but for wrong_day of a closing refused with 42, 43 or 46. 'Refusals: 1 to 3' are
+ * STORE_LENGTH, RECORD and CALENDAR_OVER. */
 
 /* Opens a point in the month of date, in service, with all else 0 or missing,
  * and clears the store. On basis 1 or 2 the power asked for is the agreed one;
@@ -498,8 +508,11 @@ sallowbingo_answer sallowbingo_permit(sallowbingo_record record, const uint32_t 
  * and d (days). On grounds 1 and 2 the hours become the month's row and the
  * latest past, and the run is 0; otherwise the run grows by 1. The total grows by
  * the month volume, and this month's readings are cleared.
- * Refusals: 1 to 3, 40 MARK_COUNT, 41 MARK, 42 PEAK_HOURS, 43 CAPACITY_HOURS,
- * 44 BUFFER_LENGTH, 45 STORE_WORD. */
+ * Refusals, in the order in which they are asked, each of the whole month before
+ * the next: 1 to 3, 40 MARK_COUNT, 41 MARK, 42 PEAK_HOURS, 43 CAPACITY_HOURS,
+ * 46 NO_CAPACITY_HOUR, 44 BUFFER_LENGTH, 45 STORE_WORD. With 42, 43 and 46 wrong_day
+ * is the first day with that fault; where its marks are put right, the next closing
+ * names the next one. */
 sallowbingo_answer sallowbingo_close(sallowbingo_record record, uint32_t *store, size_t words, const uint8_t *marks,
                                      size_t count, uint32_t *hours, size_t room);
 

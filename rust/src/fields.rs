@@ -60,6 +60,7 @@ macro_rules! table {
                 capacity: Kw,
                 sum: Kwh,
                 days: u64,
+                wrong_day: u64,
             }
             Answer {
                 refusal: u32,

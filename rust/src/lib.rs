@@ -3,11 +3,12 @@
 //! A point is opened on its contract. Readings, failures, admissions, denials of access and permissions come in, and
 //! each month is closed, each as one call on a [`Record`] and a store of [`STORE`] words that the caller keeps. A
 //! closing gives the hours and its [`Figures`]. The rules and the numbers are those of the specification
-//! *Estimated consumption at a delivery point* with requests E2 and E3 of document 02, called document 01 here.
+//! *Estimated consumption at a delivery point* with requests E2, E3 and E8 of document 02, called document 01 here.
 //!
 //! Nothing has to be checked beforehand: arguments are plain numbers and slices of any length, a call that document 01
-//! refuses gives its [`Refusal`], and a refused call leaves record, store and hour buffer as they were. Nothing is
-//! allocated, and the crate needs no standard library.
+//! refuses gives its [`Refusal`], a closing a [`RefusedClosing`], which with 42, 43 and 46 has the first day with that
+//! fault, and a refused call leaves record, store and hour buffer as they were. Nothing is allocated, and the crate needs
+//! no standard library.
 //!
 //! ```
 //! use sallowbingo::{basis, mark, meter, open, Contract, Date, Kw, Kwh, Refusal, ROW, STORE};
@@ -28,10 +29,16 @@
 //! assert_eq!(refusal, Refusal::AlreadyGiven);
 //! assert_eq!(refusal.to_string(), "refusal 22: the reading is already given this month");
 //!
-//! // One mark an hour: hour 10 is a planned peak and the first day's capacity hour.
+//! // One mark an hour: hour 10 of the first day is a planned peak, and the day has no capacity hour.
 //! let mut marks = [mark::ORDINARY; 24 * 28];
-//! marks[10] = mark::BOTH;
+//! marks[10] = mark::PEAK;
 //! let mut hours = [0; ROW];
+//! let refused = point.close(&mut store, &marks, &mut hours).unwrap_err();
+//! assert_eq!((refused.refusal, refused.wrong_day), (Refusal::NoCapacityHour, Some(1)));
+//! assert_eq!(refused.to_string(), "refusal 46: a day has peak hours without a capacity hour: day 1");
+//!
+//! // It is the capacity hour too.
+//! marks[10] = mark::BOTH;
 //! let figures = point.close(&mut store, &marks, &mut hours)?;
 //!
 //! // Ground 5: no billing reading and no past, so the volume goes by the peak rule, with the power in the peak hour
@@ -74,7 +81,7 @@ mod refusal;
 pub use numbers::FIELDS;
 pub use raw::{Cable, Contract, Date, Figures, Kw, Kwh};
 pub use record::{open, Record};
-pub use refusal::Refusal;
+pub use refusal::{Refusal, RefusedClosing};
 
 /// The words of a store: 14 rows.
 pub const STORE: usize = 14 * ROW;

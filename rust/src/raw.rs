@@ -102,6 +102,9 @@ pub struct Record {
 }
 
 /// The figures of a closing, which it gives beside the hours.
+///
+/// The fields are those of `sallowbingo_figures` in the C header. [`Record::close`](crate::Record::close) hands out the
+/// figures of accepted closings alone.
 #[repr(C)]
 #[derive(Clone, Copy, Debug, Default, PartialEq, Eq, Hash)]
 pub struct Figures {
@@ -115,9 +118,13 @@ pub struct Figures {
     pub sum: Kwh,
     /// d, the working days.
     pub days: u64,
+    /// 0 where the closing is accepted. The day of a refused one is in
+    /// [`RefusedClosing::wrong_day`](crate::RefusedClosing::wrong_day).
+    pub wrong_day: u64,
 }
 
-/// The number of the refusal, 0 for none; the record after the call; the figures of an accepted closing, else 0.
+/// The number of the refusal, 0 for none; the record after the call; the figures of an accepted closing, else 0. The
+/// wrong day alone is of a closing refused with 42, 43 or 46.
 #[repr(C)]
 #[derive(Clone, Copy, Debug, Default, PartialEq, Eq, Hash)]
 pub struct Answer {

@@ -2,7 +2,7 @@
 
 use crate::numbers::{self, FIELDS};
 use crate::raw::{self, Answer, Contract, Date, Figures, Kwh};
-use crate::{call, month_days, Refusal};
+use crate::{call, month_days, Refusal, RefusedClosing};
 
 /// The record of a delivery point.
 ///
@@ -118,10 +118,45 @@ impl Record {
     ///
     /// `marks` has one byte for each hour of the month, see [`mark`](crate::mark). `hours` has [`ROW`](crate::ROW)
     /// words, which may hold anything; it gets the month's hours, and 0 from the month's end on. Refused with 1 to 3
-    /// and 40 to 45.
-    pub fn close(&mut self, store: &mut [u32], marks: &[u8], hours: &mut [u32]) -> Result<Figures, Refusal> {
+    /// and 40 to 46, of which 46 is asked before 44 and 45.
+    ///
+    /// With 42, 43 and 46 the first day with that fault comes along; where its marks are put right, the next closing
+    /// names the next one.
+    ///
+    /// ```
+    /// use sallowbingo::{basis, mark, meter, open, Contract, Date, Kw, Refusal, RefusedClosing, ROW, STORE};
+    ///
+    /// let contract = Contract {
+    ///     billing: meter::INTERVAL,
+    ///     basis: basis::AGREED,
+    ///     power: Kw(100),
+    ///     ..Contract::default()
+    /// };
+    /// let (mut store, mut hours) = ([0; STORE], [0; ROW]);
+    /// let mut point = open(contract, Date { year: 2023, month: 3 }, &[], 0, &mut store)?;
+    ///
+    /// // Day 3 has a peak hour and no capacity hour, day 14 two capacity hours.
+    /// let mut marks = [mark::ORDINARY; 24 * 31];
+    /// marks[24 * 2 + 10] = mark::PEAK;
+    /// marks[24 * 13 + 10] = mark::BOTH;
+    /// marks[24 * 13 + 17] = mark::BOTH;
+    ///
+    /// let refused = point.close(&mut store, &marks, &mut hours).unwrap_err();
+    /// assert_eq!(refused, RefusedClosing { refusal: Refusal::CapacityHours, wrong_day: Some(14) });
+    ///
+    /// marks[24 * 13 + 17] = mark::PEAK;
+    /// let refused = point.close(&mut store, &marks, &mut hours).unwrap_err();
+    /// assert_eq!(refused.to_string(), "refusal 46: a day has peak hours without a capacity hour: day 3");
+    ///
+    /// marks[24 * 2 + 10] = mark::BOTH;
+    /// let figures = point.close(&mut store, &marks, &mut hours)?;
+    /// assert_eq!(figures.days, 2);
+    /// # Ok::<(), Refusal>(())
+    /// ```
+    pub fn close(&mut self, store: &mut [u32], marks: &[u8], hours: &mut [u32]) -> Result<Figures, RefusedClosing> {
         let answer = call::close(self.0, store, marks, hours);
-        self.keep(answer).map(|()| answer.figures)
+        let wrong_day = Some(answer.figures.wrong_day).filter(|&day| day != 0);
+        self.keep(answer).map(|()| answer.figures).map_err(|refusal| RefusedClosing { refusal, wrong_day })
     }
 
     /// Takes over the record that the call left.

@@ -5,8 +5,9 @@ use core::fmt;
 
 /// Why a call was refused, with the number of document 01.
 ///
-/// Where several apply, a call answers the lowest. A refused call leaves record, store and hour buffer as they were.
-/// A request of the customer may bring numbers, so a `match` has an arm for others.
+/// Where several apply, a call answers the lowest, but a closing asks [`NoCapacityHour`](Refusal::NoCapacityHour), 46,
+/// after 43 and before 44 and 45. Compared with `<`, refusals go by their numbers. A refused call leaves record, store
+/// and hour buffer as they were. A request of the customer may bring numbers, so a `match` has an arm for others.
 ///
 /// ```
 /// use sallowbingo::Refusal;
@@ -74,17 +75,19 @@ pub enum Refusal {
     Mark = 41,
     /// At a closing: over 16 peak hours in a day.
     PeakHours = 42,
-    /// At a closing: two or more capacity hours in a day, or peak hours without one.
+    /// At a closing: two or more capacity hours in a day.
     CapacityHours = 43,
     /// At a closing: the hour buffer has not 744 words.
     BufferLength = 44,
     /// At a closing: a word of the store above 3,000,000 in rows 0 to 11, or above 1,000,000 in rows 12 and 13.
     StoreWord = 45,
+    /// At a closing: peak hours without a capacity hour in a day. A closing asks this before 44 and 45.
+    NoCapacityHour = 46,
 }
 
 impl Refusal {
     /// All refusals, from the lowest number to the highest.
-    pub const ALL: [Refusal; 25] = [
+    pub const ALL: [Refusal; 26] = [
         Refusal::StoreLength,
         Refusal::Record,
         Refusal::CalendarOver,
@@ -110,6 +113,7 @@ impl Refusal {
         Refusal::CapacityHours,
         Refusal::BufferLength,
         Refusal::StoreWord,
+        Refusal::NoCapacityHour,
     ];
 
     /// The refusal of a number, or none if document 01 has no such number.
@@ -149,9 +153,10 @@ impl Refusal {
             Refusal::MarkCount => "there are not as many marks as the month has hours",
             Refusal::Mark => "a mark is above 3",
             Refusal::PeakHours => "a day has over 16 peak hours",
-            Refusal::CapacityHours => "a day has two or more capacity hours, or peak hours without one",
+            Refusal::CapacityHours => "a day has two or more capacity hours",
             Refusal::BufferLength => "the hour buffer has not 744 words",
             Refusal::StoreWord => "a word of the store is above the limit of its row",
+            Refusal::NoCapacityHour => "a day has peak hours without a capacity hour",
         }
     }
 }
@@ -163,3 +168,41 @@ impl fmt::Display for Refusal {
 }
 
 impl Error for Refusal {}
+
+/// Why a closing was refused, and with 42, 43 and 46 the first day with that fault.
+///
+/// It becomes a [`Refusal`], without the day, by `?` or [`Refusal::from`].
+///
+/// ```
+/// use sallowbingo::{Refusal, RefusedClosing};
+///
+/// let refused = RefusedClosing { refusal: Refusal::CapacityHours, wrong_day: Some(14) };
+/// assert_eq!(refused.to_string(), "refusal 43: a day has two or more capacity hours: day 14");
+/// assert_eq!(Refusal::from(refused), Refusal::CapacityHours);
+/// ```
+#[derive(Clone, Copy, Debug, PartialEq, Eq, Hash)]
+pub struct RefusedClosing {
+    /// Why.
+    pub refusal: Refusal,
+    /// With 42, 43 and 46 the first day of the month that has the fault of that number, counted from 1; else none. An
+    /// earlier day may have a fault of another number.
+    pub wrong_day: Option<u64>,
+}
+
+impl From<RefusedClosing> for Refusal {
+    fn from(refused: RefusedClosing) -> Refusal {
+        refused.refusal
+    }
+}
+
+impl fmt::Display for RefusedClosing {
+    fn fmt(&self, f: &mut fmt::Formatter<'_>) -> fmt::Result {
+        self.refusal.fmt(f)?;
+        match self.wrong_day {
+            Some(day) => write!(f, ": day {day}"),
+            None => Ok(()),
+        }
+    }
+}
+
+impl Error for RefusedClosing {}

@@ -1,6 +1,6 @@
 /* The closing through C: its refusals, alone and together; the nine grounds, on volumes small enough to work out by hand;
  * what a closing leaves in buffer, rows and record; the past, the run and the marks; and the limits. The comments work out
- * the expected values from document 01. */
+ * the expected values from document 01. tests/c/marks_test.c has the days whose marks are wrong. */
 #include "point.h"
 
 typedef sallowbingo_figures figures;
@@ -82,12 +82,12 @@ static record after(record r, uint32_t run, uint64_t total, uint32_t year, uint3
 }
 
 static figures of(uint32_t ground, uint64_t volume, uint64_t sum, uint64_t days, uint32_t capacity) {
-    return (figures){ground, kwh(volume), {capacity}, kwh(sum), days};
+    return (figures){ground, kwh(volume), {capacity}, kwh(sum), days, 0};
 }
 
 static int same_figures(figures a, figures b) {
     return a.ground == b.ground && a.volume.kwh == b.volume.kwh && a.capacity.kw == b.capacity.kw
-        && a.sum.kwh == b.sum.kwh && a.days == b.days;
+        && a.sum.kwh == b.sum.kwh && a.days == b.days && a.wrong_day == b.wrong_day;
 }
 
 /* The buffer holds the expected hours, and the words past its end are as they were. */
@@ -144,15 +144,26 @@ static closing good(void) {
     return (closing){with_second(with_control(r, 700), 28), SALLOWBINGO_STORE, 672, HOURS};
 }
 
-static int gives(closing c, uint32_t number) {
+/* The closing is refused with that number, and names that day, counted from 1, or none with 0. */
+static int gives_day(closing c, uint32_t number, uint64_t day) {
     remember();
-    return refused(sallowbingo_close(c.r, store, c.words, marks, c.marks, buffer, c.hours), number, c.r);
+    answer a = sallowbingo_close(c.r, store, c.words, marks, c.marks, buffer, c.hours);
+    return refused_for_day(a, number, day, c.r);
 }
 
-static const uint32_t numbers[] = {1, 2, 3, 40, 41, 42, 43, 44, 45};
+static int gives(closing c, uint32_t number) { return gives_day(c, number, 0); }
+
+/* In the order in which they are asked. */
+static const uint32_t numbers[] = {1, 2, 3, 40, 41, 42, 43, 46, 44, 45};
+
+/* With 42, 43 and 46 a closing names that day, which is counted from 0 here, and with all others none. */
+static int gives_on(closing c, uint32_t number, size_t day) {
+    return gives_day(c, number, number == 42 || number == 43 || number == 46 ? day + 1 : 0);
+}
 
 /* Makes a number apply; where it is about the marks, on that day, and each at hours of its own: 41 at hour 20, 42 by 17
- * peaks from hour 0 with the capacity hour among them, 43 by two capacity hours, 18 and 19. */
+ * peaks from hour 0 with the capacity hour among them, 43 by two capacity hours, 18 and 19, 46 by a peak at hour 21, for
+ * which the day has to be without a capacity hour. */
 static void spoil(closing *c, uint32_t number, size_t day) {
     switch (number) {
     case 1: c->words--; break;
@@ -162,6 +173,7 @@ static void spoil(closing *c, uint32_t number, size_t day) {
     case 41: marks[24 * day + 20] = 4; break;
     case 42: mark(day, 0, 17, 0); break;
     case 43: marks[24 * day + 18] = marks[24 * day + 19] = 2; break;
+    case 46: marks[24 * day + 21] = 1; break;
     case 44: c->hours--; break;
     default: row(13)[743] = 1000001;
     }
@@ -170,24 +182,24 @@ static void spoil(closing *c, uint32_t number, size_t day) {
 static int alone(uint32_t number, size_t day) {
     closing c = good();
     spoil(&c, number, day);
-    return gives(c, number);
+    return gives_on(c, number, day);
 }
 
-/* Both apply, the lower on the month's last day and the higher on its first, or the other way round: the lower wins. */
-static int wins(uint32_t low, uint32_t high) {
+/* Both apply, one on the month's last day and the other on its first, or the other way round: the one asked first wins. */
+static int wins(uint32_t first, uint32_t other) {
     closing c = good();
-    spoil(&c, low, 27), spoil(&c, high, 0);
-    int last = gives(c, low);
+    spoil(&c, first, 27), spoil(&c, other, 0);
+    int last = gives_on(c, first, 27);
     c = good();
-    spoil(&c, low, 0), spoil(&c, high, 27);
-    return gives(c, low) && last;
+    spoil(&c, first, 0), spoil(&c, other, 27);
+    return gives_on(c, first, 0) && last;
 }
 
-/* All numbers from the k-th on apply, on one day. */
-static int first_of(size_t k, size_t day) {
+/* All numbers from the k-th on apply, on one day; 46 on a day of its own, since the others have capacity hours. */
+static int first_of(size_t k, size_t day, size_t own) {
     closing c = good();
-    for (size_t n = k; n < COUNT(numbers); n++) spoil(&c, numbers[n], day);
-    return gives(c, numbers[k]);
+    for (size_t n = k; n < COUNT(numbers); n++) spoil(&c, numbers[n], numbers[n] == 46 ? own : day);
+    return gives_on(c, numbers[k], numbers[k] == 46 ? own : day);
 }
 
 static void refusals_alone(void) {
@@ -201,6 +213,7 @@ static void refusals_alone(void) {
         CHECK(alone(41, day));
         CHECK(alone(42, day));
         CHECK(alone(43, day));
+        CHECK(alone(46, day));
         CHECK(alone(44, day));
         CHECK(alone(45, day));
     }
@@ -216,8 +229,16 @@ static void refusals_in_pairs(void) {
     CHECK(wins(40, 44)), CHECK(wins(40, 45)), CHECK(wins(41, 42)), CHECK(wins(41, 43));
     CHECK(wins(41, 44)), CHECK(wins(41, 45)), CHECK(wins(42, 43)), CHECK(wins(42, 44));
     CHECK(wins(42, 45)), CHECK(wins(43, 44)), CHECK(wins(43, 45)), CHECK(wins(44, 45));
-    for (size_t k = 0; k < COUNT(numbers); k++)
-        for (size_t day = 0; day < 28; day += 27) CHECK(first_of(k, day));
+    /* 46 is asked after 43 and before 44 */
+    CHECK(wins(1, 46)), CHECK(wins(2, 46)), CHECK(wins(3, 46)), CHECK(wins(40, 46));
+    CHECK(wins(41, 46)), CHECK(wins(42, 46)), CHECK(wins(43, 46)), CHECK(wins(46, 44));
+    CHECK(wins(46, 45));
+    for (size_t k = 0; k < COUNT(numbers); k++) {
+        CHECK(first_of(k, 0, 27));
+        CHECK(first_of(k, 27, 0));
+        CHECK(first_of(k, 0, 1));
+        CHECK(first_of(k, 27, 26));
+    }
 }
 
 /* Some wrong lengths of store, marks and buffer, and nothing lent at all. */
@@ -272,17 +293,17 @@ static void other_marks(void) {
         closing c = good();
         marks[places[k]] = 4, CHECK(gives(c, 41));
         marks[places[k]] = 255, CHECK(gives(c, 41));
-        marks[places[k]] = 1, CHECK(gives(c, 43)); /* a peak hour on a day without a capacity hour */
+        marks[places[k]] = 1, CHECK(gives_on(c, 46, places[k] / 24)); /* a peak hour on a day without a capacity hour */
         marks[places[k]] = 3, CHECK(close_month(c.r, 672).refusal == 0);
     }
     closing c = good();
-    mark(5, 0, 24, 0), CHECK(gives(c, 42));
-    c = good(), mark(5, 0, 17, 20), CHECK(gives(c, 42));
+    mark(5, 0, 24, 0), CHECK(gives_on(c, 42, 5));
+    c = good(), mark(5, 0, 17, 20), CHECK(gives_on(c, 42, 5));
     c = good(), mark(5, 0, 16, 20), CHECK(close_month(c.r, 672).refusal == 0);
-    c = good(), memset(marks + 120, 1, 17), CHECK(gives(c, 42)); /* 17 peaks without a capacity hour: 42 and 43 */
-    c = good(), memset(marks + 120, 1, 16), CHECK(gives(c, 43));
-    c = good(), marks[120] = marks[143] = 2, CHECK(gives(c, 43));
-    c = good(), marks[120] = marks[143] = 3, CHECK(gives(c, 43));
+    c = good(), memset(marks + 120, 1, 17), CHECK(gives_on(c, 42, 5)); /* 17 peaks without a capacity hour: 42 and 46 */
+    c = good(), memset(marks + 120, 1, 16), CHECK(gives_on(c, 46, 5));
+    c = good(), marks[120] = marks[143] = 2, CHECK(gives_on(c, 43, 5));
+    c = good(), marks[120] = marks[143] = 3, CHECK(gives_on(c, 43, 5));
     /* a capacity hour is the last of one day and the first of the next */
     c = good(), marks[143] = marks[144] = 2, CHECK(close_month(c.r, 672).refusal == 0);
     /* 16 peaks that end one day and 16 that begin the next */

@@ -257,9 +257,13 @@ static void mark_names(void) {
     record r = january();
     mark_all(SALLOWBINGO_MARK_ORDINARY);
     marks[0] = SALLOWBINGO_MARK_PEAK;
-    CHECK(close_month(r).refusal == REFUSED_AS(CAPACITY_HOURS));
+    CHECK(close_month(r).refusal == REFUSED_AS(NO_CAPACITY_HOUR));
     marks[1] = SALLOWBINGO_MARK_CAPACITY;
     CHECK(close_month(r).refusal == ACCEPTED);
+    marks[2] = SALLOWBINGO_MARK_CAPACITY;
+    CHECK(close_month(r).refusal == REFUSED_AS(CAPACITY_HOURS));
+    CHECK(REFUSED_AS(CAPACITY_HOURS) == 43 && REFUSED_AS(NO_CAPACITY_HOUR) == 46); /* as document 02 has them */
+    r = january(), marks[2] = SALLOWBINGO_MARK_ORDINARY;
     marks[1] = SALLOWBINGO_MARK_BOTH + 1;
     CHECK(close_month(r).refusal == REFUSED_AS(MARK));
     /* 10 kWh an hour by the peak rule with 1 kW: an hour that is a peak gets 1 */

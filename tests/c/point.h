@@ -38,10 +38,13 @@ static inline int same(record a, record b) {
         && a.total.kwh == b.total.kwh;
 }
 
-static inline int no_figures(answer a) {
+/* No figure but the wrong day, which is 0 for none. */
+static inline int only_wrong_day(answer a, uint64_t day) {
     return a.figures.ground == 0 && a.figures.volume.kwh == 0 && a.figures.capacity.kw == 0 && a.figures.sum.kwh == 0
-        && a.figures.days == 0;
+        && a.figures.days == 0 && a.figures.wrong_day == day;
 }
+
+static inline int no_figures(answer a) { return only_wrong_day(a, 0); }
 
 static inline record zeros(void) {
     record r;
@@ -87,9 +90,13 @@ static inline int untouched(void) {
     return memcmp(was, store, sizeof store) == 0 && memcmp(buffer_was, buffer, sizeof buffer) == 0;
 }
 
-/* The answer is that refusal, with the record given and no figures, and store and buffer are as they were. */
-static inline int refused(answer a, uint32_t number, record given) {
-    return a.refusal == number && same(a.after, given) && no_figures(a) && untouched();
+/* The answer is that refusal, with the record given and no figure but that wrong day, and store and buffer are as they
+ * were. */
+static inline int refused_for_day(answer a, uint32_t number, uint64_t day, record given) {
+    return a.refusal == number && same(a.after, given) && only_wrong_day(a, day) && untouched();
 }
+
+/* The same with no figures at all. */
+static inline int refused(answer a, uint32_t number, record given) { return refused_for_day(a, number, 0, given); }
 
 #endif

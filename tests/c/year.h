@@ -55,7 +55,7 @@ typedef struct {
     uint64_t volume, c, d, capacity, total, run;
 } closing;
 
-/* The closing is accepted and gives that, and the hours are those expected. */
+/* The closing is accepted and gives that, no day is wrong, and the hours are those expected. */
 #define CHECK_CLOSED(a, ...)                             \
     do {                                                 \
         closing given = __VA_ARGS__;                     \
@@ -64,6 +64,7 @@ typedef struct {
         CHECK(a.figures.volume.kwh == given.volume);     \
         CHECK(a.figures.sum.kwh == given.c);             \
         CHECK(a.figures.days == given.d);                \
+        CHECK(a.figures.wrong_day == 0);                 \
         CHECK(a.figures.capacity.kw == given.capacity);  \
         CHECK(a.after.total.kwh == given.total);         \
         CHECK(a.after.service.run == given.run);         \

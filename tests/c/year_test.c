@@ -91,16 +91,19 @@ static record february(record r) {
 }
 
 /* No reading, R = 1, and February as the past: ground 7, its hours, V = 816. Two working days, C = 13 + 3 = 16,
- * capacity 8. The total is 2,226 + 816 = 3,042. Before that, closings with wrong marks. */
+ * capacity 8. The total is 2,226 + 816 = 3,042. Before that, closings with wrong marks, and the day that each names. */
 static record march(record r) {
     begin();
     by_february(expected, 31);
     CHECK(refused(close_month(r, 28), SALLOWBINGO_REFUSAL_MARK_COUNT, r));
     mark(3, 0, SALLOWBINGO_PEAK_HOURS_MAX + 1, 0);
-    CHECK(refused(close_month(r, 31), SALLOWBINGO_REFUSAL_PEAK_HOURS, r));
+    CHECK(refused_for_day(close_month(r, 31), SALLOWBINGO_REFUSAL_PEAK_HOURS, 4, r));
     memset(marks, SALLOWBINGO_MARK_ORDINARY, sizeof marks);
     marks[9] = SALLOWBINGO_MARK_PEAK;
-    CHECK(refused(close_month(r, 31), SALLOWBINGO_REFUSAL_CAPACITY_HOURS, r));
+    marks[DAY * 30 + 9] = marks[DAY * 30 + 10] = SALLOWBINGO_MARK_CAPACITY;
+    CHECK(refused_for_day(close_month(r, 31), SALLOWBINGO_REFUSAL_CAPACITY_HOURS, 31, r));
+    marks[DAY * 30 + 10] = SALLOWBINGO_MARK_ORDINARY;
+    CHECK(refused_for_day(close_month(r, 31), SALLOWBINGO_REFUSAL_NO_CAPACITY_HOUR, 1, r));
     mark(0, 8, 4, 9), mark(30, 8, 4, 9);
     answer a = close_month(r, 31);
     CHECK_CLOSED(a, (closing){SALLOWBINGO_GROUND_PAST,

@@ -14,9 +14,10 @@ mod refusals;
 mod refused;
 #[path = "../../../tests/random/rows.rs"]
 mod rows;
+mod wrong_days;
 mod year;
 
-use sallowbingo::{basis, mark, meter, open, Cable, Contract, Date, Figures, Kw, Record, Refusal, ROW, STORE};
+use sallowbingo::{basis, mark, meter, open, Cable, Contract, Date, Figures, Kw, Record, RefusedClosing, ROW, STORE};
 
 const NO_CABLE: Cable = Cable { amperes: 0, volts: 0, cosine: 0, phases: 0 };
 
@@ -54,7 +55,7 @@ impl Point {
         Point { record, store, hours: vec![7; ROW] }
     }
 
-    fn close(&mut self, marks: &[u8]) -> Result<Figures, Refusal> {
+    fn close(&mut self, marks: &[u8]) -> Result<Figures, RefusedClosing> {
         self.record.close(&mut self.store, marks, &mut self.hours)
     }
 
@@ -65,7 +66,7 @@ impl Point {
 }
 
 /// A day with these numbers at hours 9 and 10, and another at all others.
-fn day<T: Copy>(nine: T, ten: T, other: T) -> [T; 24] {
+const fn day<T: Copy>(nine: T, ten: T, other: T) -> [T; 24] {
     let mut day = [other; 24];
     day[9] = nine;
     day[10] = ten;

@@ -1,11 +1,12 @@
 //! The refusals as numbers and as text.
 
 use sallowbingo::Refusal::{self, *};
+use sallowbingo::RefusedClosing;
 use std::collections::BTreeSet;
 use std::error::Error;
 
-/// The numbers of document 01, and 15 of request E3.
-const NUMBERS: [(Refusal, u32); 25] = [
+/// The numbers of document 01, 15 of request E3 and 46 of request E8.
+const NUMBERS: [(Refusal, u32); 26] = [
     (StoreLength, 1),
     (Record, 2),
     (CalendarOver, 3),
@@ -31,6 +32,7 @@ const NUMBERS: [(Refusal, u32); 25] = [
     (CapacityHours, 43),
     (BufferLength, 44),
     (StoreWord, 45),
+    (NoCapacityHour, 46),
 ];
 
 #[test]
@@ -61,4 +63,23 @@ fn shown_with_number_and_sentence() {
     assert_eq!(error.to_string(), "refusal 3: the calendar is over");
     let sentence = "an integral billing meter is not accepted where P is 670 kW or more";
     assert_eq!(IntegralMeter.to_string(), format!("refusal 15: {sentence}"));
+}
+
+#[test]
+fn shown_with_the_wrong_day() {
+    let shown = |refusal, wrong_day| {
+        let error: Box<dyn Error> = Box::new(RefusedClosing { refusal, wrong_day });
+        assert!(error.source().is_none());
+        error.to_string()
+    };
+    assert_eq!(shown(PeakHours, Some(31)), "refusal 42: a day has over 16 peak hours: day 31");
+    assert_eq!(shown(CapacityHours, Some(14)), "refusal 43: a day has two or more capacity hours: day 14");
+    assert_eq!(shown(NoCapacityHour, Some(1)), "refusal 46: a day has peak hours without a capacity hour: day 1");
+    assert_eq!(shown(Mark, None), Mark.to_string());
+}
+
+#[test]
+fn compared_by_number() {
+    assert!(CapacityHours < BufferLength && StoreWord < NoCapacityHour);
+    assert!(Refusal::ALL.windows(2).all(|pair| pair[0] < pair[1] && pair[0].number() < pair[1].number()));
 }

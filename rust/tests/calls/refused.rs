@@ -88,8 +88,14 @@ const METHODS: [Call; 10] = [
     |p| p.record.admit(&p.store),
     |p| p.record.deny(&mut p.store),
     |p| p.record.permit(&p.store),
-    |p| p.close(&[0; 744]).map(drop),
+    |p| close(p, &[0; 744]),
 ];
+
+/// A closing, without the day that a refused one may name.
+fn close(p: &mut Point, marks: &[u8]) -> Result<(), Refusal> {
+    p.close(marks)?;
+    Ok(())
+}
 
 fn ask(p: &mut Point, contract: Contract, currents: &[u32], place: usize) -> Result<(), Refusal> {
     open(contract, Date { year: 2023, month: 1 }, currents, place, &mut p.store).map(drop)
@@ -174,18 +180,24 @@ fn stored(place: usize, word: u32) -> Point {
     p
 }
 
+/// A closing that is lent so many words of the hour buffer.
+fn close_into(p: &mut Point, marks: &[u8], room: usize) -> Result<(), Refusal> {
+    p.record.close(&mut p.store, marks, &mut p.hours[..room])?;
+    Ok(())
+}
+
 const CLOSING: [Refused; 11] = [
-    (Refusal::MarkCount, read, |p| p.close(&[]).map(drop)),
-    (Refusal::MarkCount, read, |p| p.close(&[0; 743]).map(drop)),
-    (Refusal::Mark, read, |p| p.close(&marks(&[4])).map(drop)),
-    (Refusal::PeakHours, read, |p| p.close(&marks(&[3, 1, 1, 1, 1, 1, 1, 1, 1, 1, 1, 1, 1, 1, 1, 1, 1])).map(drop)),
-    (Refusal::CapacityHours, read, |p| p.close(&marks(&[2, 2])).map(drop)),
-    (Refusal::CapacityHours, read, |p| p.close(&marks(&[1])).map(drop)),
-    (Refusal::BufferLength, read, |p| p.record.close(&mut p.store, &[0; 744], &mut p.hours[1..]).map(drop)),
-    (Refusal::BufferLength, read, |p| p.record.close(&mut p.store, &[0; 744], &mut []).map(drop)),
-    (Refusal::StoreWord, || stored(0, 3_000_001), |p| p.close(&[0; 744]).map(drop)),
-    (Refusal::StoreWord, || stored(12 * 744, 1_000_001), |p| p.close(&[0; 744]).map(drop)),
-    (Refusal::StoreWord, || stored(STORE - 1, u32::MAX), |p| p.close(&[0; 744]).map(drop)),
+    (Refusal::MarkCount, read, |p| close(p, &[])),
+    (Refusal::MarkCount, read, |p| close(p, &[0; 743])),
+    (Refusal::Mark, read, |p| close(p, &marks(&[4]))),
+    (Refusal::PeakHours, read, |p| close(p, &marks(&[3, 1, 1, 1, 1, 1, 1, 1, 1, 1, 1, 1, 1, 1, 1, 1, 1]))),
+    (Refusal::CapacityHours, read, |p| close(p, &marks(&[2, 2]))),
+    (Refusal::NoCapacityHour, read, |p| close(p, &marks(&[1]))),
+    (Refusal::BufferLength, read, |p| close_into(p, &[0; 744], 743)),
+    (Refusal::BufferLength, read, |p| close_into(p, &[0; 744], 0)),
+    (Refusal::StoreWord, || stored(0, 3_000_001), |p| close(p, &[0; 744])),
+    (Refusal::StoreWord, || stored(12 * 744, 1_000_001), |p| close(p, &[0; 744])),
+    (Refusal::StoreWord, || stored(STORE - 1, u32::MAX), |p| close(p, &[0; 744])),
 ];
 
 /// The call is refused with this, and nothing is changed.
@@ -280,5 +292,13 @@ fn lowest_number_first() {
     // a power above its limit (12), and above that of an integral meter (15)
     check(Refusal::Basis, read(), |p| ask(p, Contract { power: Kw(1_000_001), ..INTEGRAL }, &[], 0));
     // a mark above 3 (41) in marks that are too few (40), with no buffer (44)
-    check(Refusal::MarkCount, read(), |p| p.record.close(&mut p.store, &[9], &mut []).map(drop));
+    check(Refusal::MarkCount, read(), |p| close_into(p, &[9], 0));
+}
+
+/// Peak hours without a capacity hour (46) go before a wrong hour buffer (44) and a word of the store (45).
+#[test]
+fn no_capacity_hour_before_buffer_and_store() {
+    check(Refusal::NoCapacityHour, stored(0, 3_000_001), |p| close_into(p, &marks(&[1]), 0));
+    check(Refusal::NoCapacityHour, stored(0, 3_000_001), |p| close(p, &marks(&[1])));
+    check(Refusal::BufferLength, stored(0, 3_000_001), |p| close_into(p, &marks(&[3]), 0));
 }

@@ -17,8 +17,8 @@ impl Point {
     /// Closes on the marks: the figures, the hours by days, and the run and the total after it.
     fn closes(&mut self, marks: &[u8], month: Month, days: &[[u32; 24]], run: u32, total: u64) {
         let Month { ground, volume, sum, days: d, capacity } = month;
-        let expected = Figures { ground, volume: Kwh(volume), capacity: Kw(capacity), sum: Kwh(sum), days: d };
-        assert_eq!(self.close(marks), Ok(expected));
+        let (volume, capacity, sum) = (Kwh(volume), Kw(capacity), Kwh(sum));
+        assert_eq!(self.close(marks), Ok(Figures { ground, volume, capacity, sum, days: d, wrong_day: 0 }));
         let mut hours = days.concat();
         assert_eq!(hours.len(), marks.len());
         hours.resize(ROW, 0);
@@ -211,6 +211,6 @@ fn end_of_the_calendar() {
     let mut p = Point::open(AGREED, 2999, 12);
     assert_eq!(p.close(&[0; 744]).map(|closing| closing.volume), Ok(Kwh(7_440)));
     assert_eq!((p.record.date(), p.record.month_hours()), (Date { year: 3000, month: 1 }, 744));
-    assert_eq!(p.close(&[0; 744]), Err(Refusal::CalendarOver));
+    assert_eq!(p.close(&[0; 744]).map_err(Refusal::from), Err(Refusal::CalendarOver));
     assert!(open(AGREED, Date { year: 2999, month: 12 }, &[], 0, &mut p.store).is_ok());
 }
