@@ -146,7 +146,8 @@ fn compare_case(tests: &mut Tests, name: &str, case: &Case) -> Answer {
         tests.check(&format!("{name}: the hours of {side}"), hours == proved_hours);
     }
     let untouched = proved_store == case.store && proved_hours == before && proved.after == *record;
-    tests.check(&format!("{name}: all stays if refused"), proved.refusal == 0 || untouched && proved.figures == Figures::default());
+    let none = Figures { wrong_day: proved.figures.wrong_day, ..Figures::default() };
+    tests.check(&format!("{name}: all stays if refused"), proved.refusal == 0 || untouched && proved.figures == none);
     proved
 }
 
@@ -275,13 +276,39 @@ fn spoil(random: &mut Random, case: &mut Case) {
     }
 }
 
+// Closings of January with two wrong days: over 16 peaks, these and two capacity hours, two capacity hours, or peaks alone.
+// A wrong day has the marks that stand here in its first hours, and none behind them.
+fn compare_wrong_days(tests: &mut Tests) {
+    let mut many = [1; 17];
+    many[16] = 3;
+    let (many, both, two, alone): (&[u8], &[u8], &[u8], &[u8]) = (&many, &[3; 17], &[2; 2], &[1]);
+    let faults = [
+        ("42 behind 43", (2, two), (31, many), ROW, (42, 31)),
+        ("42 and 43 on a day", (4, alone), (9, both), ROW, (42, 9)),
+        ("43 behind 46", (3, alone), (20, two), ROW, (43, 20)),
+        ("46 twice", (31, alone), (5, alone), ROW, (46, 5)),
+        ("46 before 44", (1, alone), (2, alone), ROW - 1, (46, 1)),
+    ];
+    for (name, one, other, room, expected) in faults {
+        let mut case = Case { room, ..case("1", 1, AGREED, |r| r.readings.billing = given(0)) };
+        for (day, marks) in [one, other] {
+            let hours = &mut case.marks[24 * (day - 1)..][..24];
+            hours.fill(0);
+            hours[..marks.len()].copy_from_slice(marks);
+        }
+        let answer = compare_case(tests, name, &case);
+        tests.check(&format!("{name}: number and day"), (answer.refusal, answer.figures.wrong_day) == expected);
+    }
+}
+
 fn compare(tests: &mut Tests) {
     for case in cases() {
         let name = format!("ground {}", case.name);
         let answer = compare_case(tests, &name, &case);
         tests.check(&format!("{name}: closes on it"), answer.refusal == 0 && answer.figures.ground == case.ground);
     }
-    let (mut random, mut numbers, mut grounds) = (Random(88172645463325252), [0; 46], [0; 10]);
+    compare_wrong_days(tests);
+    let (mut random, mut numbers, mut grounds) = (Random(88172645463325252), [0; 47], [0; 10]);
     for round in 0..6000 {
         let mut case = any_case(&mut random);
         for _ in 0..round % 3 {
@@ -291,7 +318,7 @@ fn compare(tests: &mut Tests) {
         numbers[answer.refusal as usize] += 1;
         grounds[answer.figures.ground as usize] += 1;
     }
-    for number in [1, 2, 3, 40, 41, 42, 43, 44, 45] {
+    for number in [1, 2, 3, 40, 41, 42, 43, 44, 45, 46] {
         tests.check(&format!("variations: some refused with {number}"), numbers[number] > 0);
     }
     for ground in 1..=9 {

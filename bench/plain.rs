@@ -104,7 +104,7 @@ fn is_valid(r: &Record) -> bool {
         && r.total.0 <= 30_000_000_000_000
 }
 
-// Marks and store: numbers 41 to 43 and 45.
+// Marks and store: numbers 41 to 43, 46 and 45.
 
 fn is_peak(mark: u8) -> bool {
     mark == 1 || mark == 3
@@ -120,25 +120,51 @@ struct Survey {
     days: u64,
 }
 
-fn survey(marks: &[u8]) -> Result<Survey, u32> {
+// The number of a refusal, and the day whose marks are wrong, 0 for none.
+struct Refused {
+    number: u32,
+    wrong_day: u64,
+}
+
+impl From<u32> for Refused {
+    fn from(number: u32) -> Refused {
+        Refused { number, wrong_day: 0 }
+    }
+}
+
+fn peaks_of(day: &[u8]) -> usize {
+    day.iter().filter(|&&m| is_peak(m)).count()
+}
+
+fn capacities_of(day: &[u8]) -> usize {
+    day.iter().filter(|&&m| is_capacity(m)).count()
+}
+
+// The first fault of the days in the order of 42, 43 and 46, of marks that have one.
+fn wrong_day(marks: &[u8]) -> Refused {
+    let first = |is_wrong: fn(&[u8]) -> bool| marks.chunks_exact(24).position(is_wrong);
+    let faults = [
+        (42, first(|day| peaks_of(day) > 16)),
+        (43, first(|day| capacities_of(day) > 1)),
+        (46, first(|day| peaks_of(day) > 0 && capacities_of(day) == 0)),
+    ];
+    let found = faults.into_iter().find_map(|(number, day)| day.map(|k| Refused { number, wrong_day: k as u64 + 1 }));
+    found.expect("a day is wrong")
+}
+
+fn survey(marks: &[u8]) -> Result<Survey, Refused> {
     if marks.iter().any(|&m| m > 3) {
-        return Err(41);
+        return Err(41.into());
     }
     let mut survey = Survey { peaks: 0, days: 0 };
-    let (mut crowded, mut unmatched) = (false, false);
+    let mut wrong = false;
     for day in marks.chunks_exact(24) {
-        let peaks = day.iter().filter(|&&m| is_peak(m)).count();
-        let capacities = day.iter().filter(|&&m| is_capacity(m)).count();
-        crowded |= peaks > 16;
-        unmatched |= capacities > 1 || peaks > 0 && capacities == 0;
+        let (peaks, capacities) = (peaks_of(day), capacities_of(day));
+        wrong |= peaks > 16 || capacities > 1 || peaks > 0 && capacities == 0;
         survey.peaks += peaks as u64;
         survey.days += u64::from(capacities > 0);
     }
-    match (crowded, unmatched) {
-        (true, _) => Err(42),
-        (_, true) => Err(43),
-        _ => Ok(survey),
-    }
+    if wrong { Err(wrong_day(marks)) } else { Ok(survey) }
 }
 
 // Whether a word is above the limit, for number 45.
@@ -151,26 +177,26 @@ fn any_above_folded(words: &[u32], limit: u32) -> bool {
     words.iter().fold(false, |above, &w| above | (w > limit))
 }
 
-fn check(scan: impl Fn(&[u32], u32) -> bool, r: &Record, store: &[u32], marks: &[u8], hours: &[u32]) -> Result<Survey, u32> {
+fn check(scan: impl Fn(&[u32], u32) -> bool, r: &Record, store: &[u32], marks: &[u8], hours: &[u32]) -> Result<Survey, Refused> {
     if store.len() != STORE {
-        return Err(1);
+        return Err(1.into());
     }
     if !is_valid(r) {
-        return Err(2);
+        return Err(2.into());
     }
     if r.date.year == 3000 {
-        return Err(3);
+        return Err(3.into());
     }
     if marks.len() != r.date.hours() {
-        return Err(40);
+        return Err(40.into());
     }
     let survey = survey(marks)?;
     if hours.len() != ROW {
-        return Err(44);
+        return Err(44.into());
     }
     let (past, readings) = store.split_at(ROW * BILLING_ROW);
     if scan(past, 3_000_000) || scan(readings, 1_000_000) {
-        return Err(45);
+        return Err(45.into());
     }
     Ok(survey)
 }
@@ -341,7 +367,9 @@ fn settle(r: &Record, survey: &Survey, store: &[u32], marks: &[u8], hours: &mut 
 fn close_by(scan: impl Fn(&[u32], u32) -> bool, r: Record, store: &mut [u32], marks: &[u8], hours: &mut [u32]) -> Answer {
     let survey = match check(scan, &r, store, marks, hours) {
         Ok(survey) => survey,
-        Err(refusal) => return Answer { refusal, after: r, figures: Figures::default() },
+        Err(Refused { number, wrong_day }) => {
+            return Answer { refusal: number, after: r, figures: Figures { wrong_day, ..Figures::default() } };
+        }
     };
     let (month, rest) = hours.split_at_mut(r.date.hours());
     let (ground, volume) = settle(&r, &survey, store, marks, month);
@@ -359,7 +387,8 @@ fn close_by(scan: impl Fn(&[u32], u32) -> bool, r: Record, store: &mut [u32], ma
     }
     store[ROW * BILLING_ROW..].fill(0);
     let capacity = Kw(half_up(sum, survey.days) as u32);
-    Answer { refusal: 0, after, figures: Figures { ground, volume: Kwh(volume), capacity, sum: Kwh(sum), days: survey.days } }
+    let figures = Figures { ground, volume: Kwh(volume), capacity, sum: Kwh(sum), days: survey.days, wrong_day: 0 };
+    Answer { refusal: 0, after, figures }
 }
 
 #[inline(never)]
