@@ -1,0 +1,3 @@
+pub mod Bits
+pub mod Marking
+pub mod Examples
