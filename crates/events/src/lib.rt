@@ -10,7 +10,7 @@ ghost use Rattle.events.specs.Failures.{reason_number, FindsReason};
 
 use calendar::{Date, month_number};
 use model::refusals::{Refusal, check_anyone, refuse_if};
-use model::{Answer, answer_of};
+use model::{Answer, answer_behind};
 use record::{Reading, ReadingOf, Record, Service};
 use store::clear_row;
 
@@ -43,12 +43,12 @@ impl TryFrom<u32> for Reason {
 
 // This month's billing reading is no longer given: its volume and row 12 become 0.
 #[tactic(auto, using(store::proofs::Laws::written_in_lem))]
-fn discard(r: Record, store: &mut [u32]) -> Record
+fn discard(r: &mut Record, store: &mut [u32])
     requires { length store.old ≡ 10416 }
-    ensures { state result store.new ≡ discarded (state r store.old) }
+    ensures { state r.new store.new ≡ discarded (state r.old store.old) }
 {
     clear_row(store, 12);
-    r.with_reading(ReadingOf::Billing, Reading::default())
+    r.set_reading(ReadingOf::Billing, Reading::default());
 }
 
 // Out of service. A fault or loss at most 12 months after an earlier one makes the run 0, and in any case its month is
@@ -70,14 +70,15 @@ fn after_failure(s: Service, d: Date, reason: Reason) -> Service
 
 // The reason is the number that C gives, and is judged behind 1 to 3 and 30.
 #[tactic(auto, using(validity::proofs::Laws::fault_most), unfolding(model::proofs::Laws::call_definitions))]
-fn try_fail(r: Record, store: &mut [u32], reason: u32) -> Result<Record, Refusal>
-    ensures { Gives (state r store.old) (report (failure reason)) result store.new }
+fn try_fail(r: &mut Record, store: &mut [u32], reason: u32) -> Result<(), Refusal>
+    ensures { Gives (state r.old store.old) (report (failure reason)) result (state r.new store.new) }
 {
-    check_anyone(store.len(), r)?;
+    check_anyone(store.len(), *r)?;
     refuse_if(r.service.serving != 1, Refusal::OutOfService)?;
     let reason = Reason::try_from(reason)?;
-    let service = after_failure(r.service, r.date, reason);
-    Ok(discard(Record { service, ..r }, store))
+    r.service = after_failure(r.service, r.date, reason);
+    discard(r, store);
+    Ok(())
 }
 
 // A failure of the billing meter: 1 fault, 2 loss, 3 verification interval over, 4 taken down; C gives the reason as a number,
@@ -86,20 +87,19 @@ fn try_fail(r: Record, store: &mut [u32], reason: u32) -> Result<Record, Refusal
 pub fn fail(r: Record, store: &mut [u32], reason: u32) -> Answer
     ensures { Does (state r store.old) (report (failure reason)) result store.new [] }
 {
-    answer_of(try_fail(r, store, reason), r)
+    let mut after = r;
+    let outcome = try_fail(&mut after, store, reason);
+    answer_behind(outcome, after)
 }
 
 #[tactic(auto, unfolding(model::proofs::Laws::call_definitions))]
-fn try_admit(r: Record, store: &[u32]) -> Result<Record, Refusal>
-    ensures { Gives (state r store.now) (report admission) result store.now }
+fn try_admit(r: &mut Record, store: &[u32]) -> Result<(), Refusal>
+    ensures { Gives (state r.old store.now) (report admission) result (state r.new store.now) }
 {
-    check_anyone(store.len(), r)?;
+    check_anyone(store.len(), *r)?;
     refuse_if(r.service.serving == 1, Refusal::InService)?;
-    let service = Service {
-        serving: 1,
-        ..r.service
-    };
-    Ok(Record { service, ..r })
+    r.service.serving = 1;
+    Ok(())
 }
 
 // The billing meter is back in service.
@@ -107,25 +107,23 @@ fn try_admit(r: Record, store: &[u32]) -> Result<Record, Refusal>
 pub fn admit(r: Record, store: &[u32]) -> Answer
     ensures { Does (state r store.now) (report admission) result store.now [] }
 {
-    answer_of(try_admit(r, store), r)
+    let mut after = r;
+    let outcome = try_admit(&mut after, store);
+    answer_behind(outcome, after)
 }
 
 #[tactic(auto, using(validity::proofs::Laws::denials_most), unfolding(model::proofs::Laws::call_definitions))]
-fn try_deny(r: Record, store: &mut [u32]) -> Result<Record, Refusal>
-    ensures { Gives (state r store.old) (report denial) result store.new }
+fn try_deny(r: &mut Record, store: &mut [u32]) -> Result<(), Refusal>
+    ensures { Gives (state r.old store.old) (report denial) result (state r.new store.new) }
 {
-    check_anyone(store.len(), r)?;
+    check_anyone(store.len(), *r)?;
     refuse_if(r.service.denials == 2, Refusal::TwoDenials)?;
     let denials = r.service.denials + 1;
-    let service = Service {
-        denials,
-        ..r.service
-    };
-    let after = Record { service, ..r };
+    r.service.denials = denials;
     if denials == 2 {
-        return Ok(discard(after, store));
+        discard(r, store);
     }
-    Ok(after)
+    Ok(())
 }
 
 // Access to the meter was denied once more. The second denial discards this month's billing reading.
@@ -133,22 +131,21 @@ fn try_deny(r: Record, store: &mut [u32]) -> Result<Record, Refusal>
 pub fn deny(r: Record, store: &mut [u32]) -> Answer
     ensures { Does (state r store.old) (report denial) result store.new [] }
 {
-    answer_of(try_deny(r, store), r)
+    let mut after = r;
+    let outcome = try_deny(&mut after, store);
+    answer_behind(outcome, after)
 }
 
 // It is as `try_admit` with another test, another refusal and another field: with these three as parameters one function is
 // longer than both.
 #[tactic(auto, unfolding(model::proofs::Laws::call_definitions))]
-fn try_permit(r: Record, store: &[u32]) -> Result<Record, Refusal>
-    ensures { Gives (state r store.now) (report permission) result store.now }
+fn try_permit(r: &mut Record, store: &[u32]) -> Result<(), Refusal>
+    ensures { Gives (state r.old store.now) (report permission) result (state r.new store.now) }
 {
-    check_anyone(store.len(), r)?;
+    check_anyone(store.len(), *r)?;
     refuse_if(r.service.denials == 0, Refusal::NoDenial)?;
-    let service = Service {
-        denials: 0,
-        ..r.service
-    };
-    Ok(Record { service, ..r })
+    r.service.denials = 0;
+    Ok(())
 }
 
 // Access to the meter is given again: no denial counts any more.
@@ -156,5 +153,7 @@ fn try_permit(r: Record, store: &[u32]) -> Result<Record, Refusal>
 pub fn permit(r: Record, store: &[u32]) -> Answer
     ensures { Does (state r store.now) (report permission) result store.now [] }
 {
-    answer_of(try_permit(r, store), r)
+    let mut after = r;
+    let outcome = try_permit(&mut after, store);
+    answer_behind(outcome, after)
 }

@@ -8,7 +8,7 @@ ghost use Rattle.line_player.specs.Played.{other_call_leaves, call_leaves, read_
 use calendar::open_hours;
 use line_calls::week::first_weekday;
 use line_calls::{lend_marks, make_call, open_by};
-use line_reader::{Call, Error, Line, read_line};
+use line_reader::{Call, Line, read_line};
 use model::Answer;
 use reasons::reasons_of;
 use record::Record;
@@ -54,17 +54,19 @@ fn answer_of(read: Line, list: &[u32], r: Record, store: &mut [u32]) -> Answer
 }
 
 impl<const N: usize> Player<N> {
-    // A line that is no call.
-    pub fn bad_line(&mut self, column: u64, error: Error)
-        ensures { self.new.record ≡ self.old.record }
+    // A line that is no call, with the column and the number of its error, which is any number.
+    pub fn bad_line(&mut self, column: u64, error: u32)
+        ensures point { self.new.record ≡ self.old.record }
+        ensures layout { self.new.answers.layout ≡ self.old.answers.layout }
     {
-        self.answers.put_error(self.line, column, error);
+        self.answers.put_bad_line(self.line, column, error);
         self.counts.errors = self.counts.errors.saturating_add(1);
     }
 
     // A call is answered: it is counted, and the point is the one behind it.
     fn answered(&mut self, call: Call, a: Answer)
-        ensures { self.new.record ≡ a.after }
+        ensures point { self.new.record ≡ a.after }
+        ensures layout { self.new.answers.layout ≡ self.old.answers.layout }
     {
         let open = self.record.date;
         self.answers
@@ -79,7 +81,8 @@ impl<const N: usize> Player<N> {
 
     // A closing, with the sheet of the month where it is accepted.
     fn play_closing(&mut self, read: Line, list: &[u32], store: &mut [u32])
-        ensures { state self.new.record store.new ≡ other_call_leaves read list.now (state self.old.record store.old) }
+        ensures point { state self.new.record store.new ≡ other_call_leaves read list.now (state self.old.record store.old) }
+        ensures layout { self.new.answers.layout ≡ self.old.answers.layout }
     {
         let date = self.record.date;
         let why = why(list, self.record, store);
@@ -103,7 +106,8 @@ impl<const N: usize> Player<N> {
     #[tactic(auto, unfolding(crate::specs::Played::call_leaves, line_reader::specs::Modes::is_opening))]
     fn play_call(&mut self, read: Line, call: Call, list: &[u32], store: &mut [u32])
         requires { read.call ≡ Some call }
-        ensures { state self.new.record store.new ≡ call_leaves read list.now (state self.old.record store.old) }
+        ensures point { state self.new.record store.new ≡ call_leaves read list.now (state self.old.record store.old) }
+        ensures layout { self.new.answers.layout ≡ self.old.answers.layout }
     {
         match call {
             Call::Close => self.play_closing(read, list, store),
@@ -117,11 +121,12 @@ impl<const N: usize> Player<N> {
     // What a line that was read does: its error is told, or its call is made.
     #[tactic(auto, unfolding(crate::specs::Played::read_leaves))]
     fn play_read(&mut self, read: Line, numbers: &[u32], store: &mut [u32])
-        ensures { state self.new.record store.new ≡ read_leaves read numbers.now (state self.old.record store.old) }
+        ensures point { state self.new.record store.new ≡ read_leaves read numbers.now (state self.old.record store.old) }
+        ensures layout { self.new.answers.layout ≡ self.old.answers.layout }
     {
         if let Some(fault) = read.fault() {
             let column = fault.place.min(999999) as u64 + 1;
-            return self.bad_line(column, fault.error);
+            return self.bad_line(column, fault.error.number());
         }
         if let Some(call) = read.call {
             let n = (read.numbers.count as usize).min(numbers.len());
@@ -132,7 +137,8 @@ impl<const N: usize> Player<N> {
     // Plays a line.
     #[tactic(auto, unfolding(crate::specs::Played::line_leaves))]
     pub fn play_line(&mut self, line: &[u8], store: &mut [u32])
-        ensures { state self.new.record store.new ≡ line_leaves line.now (state self.old.record store.old) }
+        ensures point { state self.new.record store.new ≡ line_leaves line.now (state self.old.record store.old) }
+        ensures layout { self.new.answers.layout ≡ self.old.answers.layout }
     {
         let date = self.record.date;
         let mut numbers = [0; 4096];

@@ -106,11 +106,16 @@ tokens_far (suc k) hours first line r n f =
     rw e (tokens_far k hours first line (read_token hours first line r) (n + 1) (token_far hours first line r n f))
 
 -- THE LINE IS READ, WITH NO ERROR, OR FAILED, WITH ONE
--- each error has a number
-error_some : (e : Error) → 1 ≤ error_number e
+-- each error has a number, of 1 to 20
+pub error_some : (e : Error) → 1 ≤ error_number e
 unfolding error_number
 error_some error.LongLine = omega arith
 error_some _ = omega arith
+
+pub error_last : (e : Error) → error_number e ≤ 20
+unfolding error_number
+error_last error.LongLine = omega arith
+error_last _ = omega arith
 
 error_never_0 : (e : Error) → error_number e ≢ 0
 error_never_0 e z = absurd (omega (arith, error_some e, z))

@@ -3,8 +3,9 @@ use Prim.Native.Nat.{ℕ}
 use Prim.Native.String.{String}
 use mathlib.Core.Path.{◌≡◌, refl}
 use mathlib.Core.List.{List, [], ◌∷◌, ◌++◌, map}
+use native.Mathlib.Omega.{arith}
 use lib.ListN.{take, set, replicate}
-use Rattle.std.specs.Prelude.{Option, Some, None}
+use Rattle.std.specs.Prelude.{Option, Some, None, Ok, Err}
 use Rattle.numbers.specs.Lists.{zeros}
 use Rattle.line_tokens.specs.Words.{bytes, text_of, word_of}
 use Rattle.line_tokens.specs.Tokens.{class_of, is_of, run_from, span_from, byte_at, place_behind, value_of, single_kind, number_token, word_token}
@@ -17,15 +18,16 @@ use Rattle.line_reader.specs.declared.names.Argument.{Argument}
 use Rattle.line_reader.specs.declared.names.Argument.TheVariants as key
 use Rattle.line_reader.specs.declared.Mode.{Mode}
 use Rattle.line_reader.specs.declared.Mode.TheVariants as mode
-use Rattle.line_reader.specs.Codes.{call_number, error_number, index_of}
+use Rattle.line_reader.specs.Codes.{call_number, error_number, Decodes, index_of}
 use Rattle.line_reader.specs.Names.{call_of, key_of, meter_word, basis_word, source_word, reason_word, word_value, expected_for, largest_for}
 use Rattle.line_reader.specs.Modes.{behind_call, limit_for, begun, called, in_call, behind_value, value_taken, value_given, in_value, in_dash, value_in}
 use Rattle.line_reader.specs.Modes.{asked_for, named_as, in_argument, volume_call, in_form, in_last, is_inside, added_to, behind_item, adding, counting}
 use Rattle.line_reader.specs.Modes.{is_opening, list_word, word_in, in_list, closed_numbers, repeated, closed_at, group_closed, in_group}
-use Rattle.line_reader.specs.Modes.{opened_numbers, in_counted, next_day, in_day}
+use Rattle.line_reader.specs.Modes.{opened_numbers, in_counted, next_day, in_day, value_by}
 use Rattle.line_reader.specs.Buffers.{part, place_for, listed, written_numbers, grouped, written_group}
 use Rattle.line_reader.specs.Lines.{in_mode, after_token, next_token, is_finished, fault_in, fault_of, fault_number, LineRead, read_token, read_tokens}
 use Rattle.line_reader.specs.Lines.{read_line}
+use Rattle.line_reader.proofs.Ends.{error_some, error_last}
 
 unfoldable line_definitions : Unit {0}
 unfolding read_line read_tokens read_token next_token after_token in_mode is_finished fault_of fault_in
@@ -92,6 +94,20 @@ numbered :
 unfolding call_number error_number fault_number
 numbered = (refl, refl, refl)
 
+-- a number decodes to the error that has it, and those on either side are no error's
+decoded :
+    Decodes 1 (Ok err.LongLine)
+    × Decodes 20 (Ok err.Last)
+    × Decodes 0 (Err (record { 0 = 0 }))
+    × Decodes 21 (Err (record { 0 = 21 }))
+unfolding error_number
+decoded = (refl, refl, (refl, λ e n. omega (arith, n, error_some e)), (refl, λ e n. omega (arith, n, error_last e)))
+
+-- and an error's number is not unknown
+not_unknown : Decodes 20 (Err (record { 0 = 20 })) → ⊥
+unfolding error_number
+not_unknown d = d.1 err.Last refl
+
 -- a blank line and comments are no call
 no_calls :
     (read_as "" ≡ as_none)
@@ -117,6 +133,16 @@ openings :
     × (read_as "open 2023-2 billing none control 0 basis 0" ≡ as_call call.Open (firsts (Some 2023 ∷ Some 2 ∷ Some 0 ∷ Some 0 ∷ Some 0 ∷ [])) [])
 unfolding line_definitions
 openings = (refl, refl, refl, refl, refl, refl, refl)
+
+-- a value by the number of its argument: the first, one that is not given, the last, and none behind it
+values_by :
+    (value_by 0 (read_in 0 0 (bytes "open 2023-02")).line ≡ Some 2023)
+    × (value_by 1 (read_in 0 0 (bytes "open 2023-02")).line ≡ Some 2)
+    × (value_by 14 (read_in 0 0 (bytes "open 2023-02")).line ≡ None)
+    × (value_by 14 (read_in 0 0 (bytes "control volume 0")).line ≡ Some 0)
+    × (value_by 15 (read_in 0 0 (bytes "control volume 0")).line ≡ None)
+unfolding line_definitions value_by
+values_by = (refl, refl, refl, refl, refl)
 
 -- the hours and the volume of each meter
 readings :

@@ -2,4 +2,5 @@ pub mod Ends
 pub mod Examples
 pub mod Finished
 pub mod Parts
+pub mod Values
 pub mod Written

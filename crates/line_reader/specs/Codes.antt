@@ -1,9 +1,10 @@
 -- The numbers of calls and errors, which the answers for programs have, and the places of arguments (docs/HISTORY-FILE.md).
-use Rattle.std.specs.Prelude.{ℕ}
+use Rattle.std.specs.Prelude.{ℕ, ◌≡◌, ◌≢◌, Result, MatchResult}
 use Rattle.line_reader.specs.declared.calls.Call.{Call}
 use Rattle.line_reader.specs.declared.calls.Call.TheVariants as call
 use Rattle.line_reader.specs.declared.errors.Error.{Error}
 use Rattle.line_reader.specs.declared.errors.Error.TheVariants as error
+use Rattle.line_reader.specs.declared.errors.UnknownError.{UnknownError}
 use Rattle.line_reader.specs.declared.names.Argument.{Argument}
 use Rattle.line_reader.specs.declared.names.Argument.TheVariants as key
 
@@ -43,6 +44,11 @@ error_number error.DayLength = 17
 error_number error.ListLength = 18
 error_number error.Counted = 19
 error_number error.Last = 20
+
+-- the result is the error that has this number, or the number itself, which no error has
+abbrev pub Decodes : ℕ → Result Error UnknownError → Type 0
+Decodes number r =
+    MatchResult r (λ e. error_number e ≡ number) (λ u. (u.0 ≡ number) × ((e : Error) → error_number e ≢ number))
 
 -- the arguments of calls, by their places among the values
 unfoldable pub index_of : Argument → ℕ

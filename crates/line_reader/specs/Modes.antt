@@ -83,6 +83,10 @@ in_dash _ place s = with_error error.Dash place s
 unfoldable pub value_in : Argument → Line → Option ℕ
 value_in key s = get_or s.values (index_of key) None
 
+-- the value of the argument with a number, its place among the values; a number that no argument has has none
+unfoldable pub value_by : ℕ → Line → Option ℕ
+value_by key s = cond (ltb key 15) (get_or s.values key None) None
+
 -- behind `currents` a list, behind any other argument its value
 unfoldable pub asked_for : Argument → Line → Line
 asked_for key.Currents s = with_mode mode.List (with_value key.Currents 0 s)

@@ -1,7 +1,7 @@
 // What a token does where a call, an argument of it, or its end is expected.
 ghost use Rattle.std.specs.Prelude.{◌≡◌};
 ghost use Rattle.line_reader.specs.Modes.{behind_call, limit_for, begun, in_call, behind_value, value_taken, in_value, in_dash};
-ghost use Rattle.line_reader.specs.Modes.{value_in, named_as, in_argument, volume_call, in_form, in_last};
+ghost use Rattle.line_reader.specs.Modes.{value_in, value_by, named_as, in_argument, volume_call, in_form, in_last};
 
 use super::calls::Call;
 use super::errors::Error;
@@ -61,26 +61,35 @@ fn volume_call(call: Option<Call>) -> Call
     }
 }
 
+// The value of the argument with a number, from the year's 0 to the volume's 14, as far as it is read; None for a number that no
+// argument has.
+#[tactic(auto, unfolding(crate::specs::Modes::value_by))]
+pub fn value_of(line: Line, key: u32) -> Option<u64>
+    ensures { result ≡ value_by key line }
+{
+    line.values.get(key as usize).copied().unwrap_or(None)
+}
+
 impl Line {
     // A call begins.
     #[tactic(auto, unfolding(crate::specs::Modes::begun))]
-    fn begin(self, call: Call) -> Line
-        ensures { result ≡ begun call self }
+    fn begin(&mut self, call: Call)
+        ensures { self.new ≡ begun call self.old }
     {
         let numbers = Numbers {
             limit: limit_for(call),
             ..self.numbers
         };
-        self.with_call(call)
-            .with_numbers(behind_call(call), numbers)
+        self.set_call(call);
+        self.set_numbers(behind_call(call), numbers);
     }
 
     #[tactic(auto, unfolding(crate::specs::Modes::in_call, crate::specs::Modes::called))]
-    pub(crate) fn in_call(self, t: Token) -> Line
-        ensures { result ≡ in_call t.kind t.from self }
+    pub(crate) fn in_call(&mut self, t: Token)
+        ensures { self.new ≡ in_call t.kind t.from self.old }
     {
         match t.kind {
-            Kind::End => self.with_mode(Mode::Read),
+            Kind::End => self.set_mode(Mode::Read),
             Kind::Word(Some(word)) => match call_of(word) {
                 Some(call) => self.begin(call),
                 None => self.fail(Error::Call, t.from),
@@ -91,15 +100,16 @@ impl Line {
 
     // The value of an argument is there.
     #[tactic(auto, unfolding(crate::specs::Modes::value_taken))]
-    fn take(self, key: Argument, value: u64) -> Line
-        ensures { result ≡ value_taken key value self }
+    fn take(&mut self, key: Argument, value: u64)
+        ensures { self.new ≡ value_taken key value self.old }
     {
-        self.with_value(key, value).with_mode(behind_value(key))
+        self.set_value(key, value);
+        self.set_mode(behind_value(key));
     }
 
     #[tactic(auto, unfolding(crate::specs::Modes::in_value, crate::specs::Modes::value_given))]
-    pub(crate) fn in_value(self, t: Token, key: Argument) -> Line
-        ensures { result ≡ in_value key t.kind t.from self }
+    pub(crate) fn in_value(&mut self, t: Token, key: Argument)
+        ensures { self.new ≡ in_value key t.kind t.from self.old }
     {
         match t.kind {
             Kind::Number(value) => {
@@ -117,11 +127,11 @@ impl Line {
     }
 
     #[tactic(auto, unfolding(crate::specs::Modes::in_dash))]
-    pub(crate) fn in_dash(self, t: Token) -> Line
-        ensures { result ≡ in_dash t.kind t.from self }
+    pub(crate) fn in_dash(&mut self, t: Token)
+        ensures { self.new ≡ in_dash t.kind t.from self.old }
     {
         match t.kind {
-            Kind::Dash => self.with_mode(Mode::Value(Argument::Month)),
+            Kind::Dash => self.set_mode(Mode::Value(Argument::Month)),
             _ => self.fail(Error::Dash, t.from),
         }
     }
@@ -137,8 +147,8 @@ impl Line {
     // The word of an argument, with its place. The list of currents has no number; 0 says that it was named, since a second naming
     // is asked of the values.
     #[tactic(auto, unfolding(crate::specs::Modes::named_as, crate::specs::Modes::asked_for))]
-    pub(crate) fn named(self, key: Option<Argument>, place: usize) -> Line
-        ensures { result ≡ named_as key place self }
+    pub(crate) fn named(&mut self, key: Option<Argument>, place: usize)
+        ensures { self.new ≡ named_as key place self.old }
     {
         let Some(key) = key else {
             return self.fail(Error::Argument, place);
@@ -147,41 +157,45 @@ impl Line {
             return self.fail(Error::Twice, place);
         }
         match key {
-            Argument::Currents => self.with_value(key, 0).with_mode(Mode::List),
-            _ => self.with_mode(Mode::Value(key)),
+            Argument::Currents => {
+                self.set_value(key, 0);
+                self.set_mode(Mode::List);
+            }
+            _ => self.set_mode(Mode::Value(key)),
         }
     }
 
     #[tactic(auto, unfolding(crate::specs::Modes::in_argument))]
-    pub(crate) fn in_argument(self, t: Token) -> Line
-        ensures { result ≡ in_argument t.kind t.from self }
+    pub(crate) fn in_argument(&mut self, t: Token)
+        ensures { self.new ≡ in_argument t.kind t.from self.old }
     {
         match t.kind {
-            Kind::End => self.with_mode(Mode::Read),
+            Kind::End => self.set_mode(Mode::Read),
             Kind::Word(word) => self.named(word.and_then(key_of), t.from),
             _ => self.fail(Error::Argument, t.from),
         }
     }
 
     #[tactic(auto, unfolding(crate::specs::Modes::in_form))]
-    pub(crate) fn in_form(self, t: Token) -> Line
-        ensures { result ≡ in_form t.kind t.from self }
+    pub(crate) fn in_form(&mut self, t: Token)
+        ensures { self.new ≡ in_form t.kind t.from self.old }
     {
         match t.kind {
-            Kind::Word(Some(Word::Hours)) => self.with_mode(Mode::List),
-            Kind::Word(Some(Word::Volume)) => self
-                .with_call(volume_call(self.call))
-                .with_mode(Mode::Value(Argument::Volume)),
+            Kind::Word(Some(Word::Hours)) => self.set_mode(Mode::List),
+            Kind::Word(Some(Word::Volume)) => {
+                self.set_call(volume_call(self.call));
+                self.set_mode(Mode::Value(Argument::Volume));
+            }
             _ => self.fail(Error::Form, t.from),
         }
     }
 
     #[tactic(auto, unfolding(crate::specs::Modes::in_last))]
-    pub(crate) fn in_last(self, t: Token) -> Line
-        ensures { result ≡ in_last t.kind t.from self }
+    pub(crate) fn in_last(&mut self, t: Token)
+        ensures { self.new ≡ in_last t.kind t.from self.old }
     {
         match t.kind {
-            Kind::End => self.with_mode(Mode::Read),
+            Kind::End => self.set_mode(Mode::Read),
             _ => self.fail(Error::Last, t.from),
         }
     }

@@ -1,4 +1,4 @@
-// A line with one thing changed.
+// One thing changed in a line. The line is lent and not given from function to function, so that no token copies it.
 ghost use Rattle.std.specs.Prelude.{◌≡◌};
 ghost use Rattle.line_reader.specs.Changes.{with_mode, with_error, with_call, with_value, with_numbers};
 
@@ -8,48 +8,39 @@ use super::names::Argument;
 use super::{Line, Mode, Numbers};
 
 impl Line {
-    pub(crate) fn with_mode(self, mode: Mode) -> Line
-        ensures { result ≡ with_mode mode self }
+    pub(crate) fn set_mode(&mut self, mode: Mode)
+        ensures { self.new ≡ with_mode mode self.old }
     {
-        Line { mode, ..self }
+        self.mode = mode;
     }
 
     // An error at the place of a token.
-    pub(crate) fn fail(self, error: Error, place: usize) -> Line
-        ensures { result ≡ with_error error place self }
+    pub(crate) fn fail(&mut self, error: Error, place: usize)
+        ensures { self.new ≡ with_error error place self.old }
     {
         let fault = Fault { error, place };
-        self.with_mode(Mode::Failed(fault))
+        self.set_mode(Mode::Failed(fault));
     }
 
     // The call is known.
-    pub(crate) fn with_call(self, call: Call) -> Line
-        ensures { result ≡ with_call call self }
+    pub(crate) fn set_call(&mut self, call: Call)
+        ensures { self.new ≡ with_call call self.old }
     {
-        Line {
-            call: Some(call),
-            ..self
-        }
+        self.call = Some(call);
     }
 
     // The value of an argument is known.
-    pub(crate) fn with_value(self, key: Argument, value: u64) -> Line
-        ensures { result ≡ with_value key value self }
+    pub(crate) fn set_value(&mut self, key: Argument, value: u64)
+        ensures { self.new ≡ with_value key value self.old }
     {
-        // One element of an array is changed, for which there is no struct update.
-        let mut values = self.values;
-        values[key.index()] = Some(value);
-        Line { values, ..self }
+        self.values[key.index()] = Some(value);
     }
 
     // The list, and what is expected behind it.
-    pub(crate) fn with_numbers(self, mode: Mode, numbers: Numbers) -> Line
-        ensures { result ≡ with_numbers mode numbers self }
+    pub(crate) fn set_numbers(&mut self, mode: Mode, numbers: Numbers)
+        ensures { self.new ≡ with_numbers mode numbers self.old }
     {
-        Line {
-            mode,
-            numbers,
-            ..self
-        }
+        self.mode = mode;
+        self.numbers = numbers;
     }
 }

@@ -13,9 +13,10 @@ mod errors;
 mod lists;
 mod names;
 
+pub use arguments::value_of;
 use buffers::write;
 pub use calls::Call;
-pub use errors::{Error, Fault};
+pub use errors::{Error, Fault, UnknownError};
 use line_tokens::{Kind, Token, token_at};
 pub use names::Argument;
 
@@ -132,8 +133,8 @@ impl Line {
 
     // What a token does to a line that is not finished. `hours` is T of the open month.
     #[tactic(auto, unfolding(crate::specs::Lines::after_token, crate::specs::Lines::in_mode))]
-    fn after_token(self, t: Token, hours: u32) -> Line
-        ensures { result ≡ after_token hours t.kind t.from self }
+    fn after_token(&mut self, t: Token, hours: u32)
+        ensures { self.new ≡ after_token hours t.kind t.from self.old }
     {
         match t.kind {
             Kind::Foreign => self.fail(Error::Foreign, t.from),
@@ -156,16 +157,13 @@ impl Line {
 
     // The line behind its next token, with what that adds to the list still to be written.
     #[tactic(auto, unfolding(crate::specs::Lines::next_token))]
-    fn next_token(self, line: &[u8], hours: u32) -> Line
-        ensures { result ≡ next_token hours line.now self }
+    fn next_token(&mut self, line: &[u8], hours: u32)
+        ensures { self.new ≡ next_token hours line.now self.old }
     {
-        let numbers = Numbers {
-            action: None,
-            ..self.numbers
-        };
+        self.numbers.action = None;
         let t = token_at(line, self.at);
-        let read = Line { numbers, ..self }.after_token(t, hours);
-        Line { at: t.to, ..read }
+        self.after_token(t, hours);
+        self.at = t.to;
     }
 }
 
@@ -173,27 +171,28 @@ impl Line {
 #[tactic(auto, unfolding(crate::specs::Lines::read_token))]
 fn read_token(
     line: &[u8],
-    s: Line,
+    s: &mut Line,
     hours: u32,
     first: u32,
     numbers: &mut [u32],
     group: &mut [u32],
-) -> Line
-    ensures { line_read result numbers.new group.new
-        ≡ read_token hours first line.now (line_read s numbers.old group.old) }
+)
+    ensures { line_read s.new numbers.new group.new
+        ≡ read_token hours first line.now (line_read s.old numbers.old group.old) }
 {
     if s.mode.is_finished() {
-        return s;
+        return;
     }
-    let next = s.next_token(line, hours);
-    write(s.numbers, next.numbers, first, numbers, group);
-    next
+    let before = s.numbers;
+    s.next_token(line, hours);
+    write(before, s.numbers, first, numbers, group);
 }
 
 // Reads a line: the call and its arguments, or the error, and its list into `numbers`. `hours` is T of the open month and
 // `first` the day of the week of its first day, Monday 0. `group` is room for numbers between parentheses.
 // Both lists are lent beside the line: they are the caller's fixed memory, and a list in the line would be copied with it. T goes
 // on without the weekday, which only the writing asks for.
+#[tactic(auto, using(crate::proofs::Finished::tokens_done))]
 pub fn read_line(
     line: &[u8],
     hours: u32,
@@ -206,7 +205,7 @@ pub fn read_line(
     let mut s = fresh_line();
     // A `while`, since it counts nothing: how many tokens a line has is known at its end only.
     while !s.mode.is_finished() {
-        s = read_token(line, s, hours, first, numbers, group);
+        read_token(line, &mut s, hours, first, numbers, group);
     }
     s
 }

@@ -125,8 +125,8 @@ impl Numbers {
 impl Line {
     // A number of the list, so many times.
     #[tactic(auto, unfolding(crate::specs::Modes::adding))]
-    fn add_number(self, times: u32, value: u64, place: usize) -> Line
-        ensures { result ≡ adding times value place self }
+    fn add_number(&mut self, times: u32, value: u64, place: usize)
+        ensures { self.new ≡ adding times value place self.old }
     {
         let n = self.numbers;
         if n.limit < value {
@@ -135,13 +135,13 @@ impl Line {
         if 4096 < n.together(times) {
             return self.fail(Error::ListLength, place);
         }
-        self.with_numbers(n.depth.behind_item(), n.added(times, value))
+        self.set_numbers(n.depth.behind_item(), n.added(times, value))
     }
 
     // A count: what it repeats is expected.
     #[tactic(auto, unfolding(crate::specs::Modes::counting))]
-    fn add_count(self, value: u64, place: usize) -> Line
-        ensures { result ≡ counting value place self }
+    fn add_count(&mut self, value: u64, place: usize)
+        ensures { self.new ≡ counting value place self.old }
     {
         if 4096 < value {
             return self.fail(Error::ListLength, place);
@@ -150,56 +150,56 @@ impl Line {
             times: short(value),
             ..self.numbers
         };
-        self.with_numbers(Mode::Counted, numbers)
+        self.set_numbers(Mode::Counted, numbers)
     }
 
     // A word in a list: the next argument of an opening, the working-day pattern, or the empty list.
     #[tactic(auto, unfolding(crate::specs::Modes::word_in, crate::specs::Modes::is_opening, crate::specs::Modes::list_word))]
-    fn word_in_list(self, word: Option<Word>, place: usize) -> Line
-        ensures { result ≡ word_in word place self }
+    fn word_in_list(&mut self, word: Option<Word>, place: usize)
+        ensures { self.new ≡ word_in word place self.old }
     {
         let fresh = self.numbers.fresh;
         match (self.call, word) {
             (Some(Call::Open), _) if !fresh => self.named(word.and_then(key_of), place),
             (Some(Call::Open), _) => self.fail(Error::Part, place),
-            (_, Some(Word::Week)) => self.with_mode(Mode::Day),
-            (_, Some(Word::None)) if fresh => self.with_mode(Mode::Last),
+            (_, Some(Word::Week)) => self.set_mode(Mode::Day),
+            (_, Some(Word::None)) if fresh => self.set_mode(Mode::Last),
             _ => self.fail(Error::Part, place),
         }
     }
 
     #[tactic(auto, unfolding(crate::specs::Modes::in_list))]
-    pub(crate) fn in_list(self, t: Token) -> Line
-        ensures { result ≡ in_list t.kind t.from self }
+    pub(crate) fn in_list(&mut self, t: Token)
+        ensures { self.new ≡ in_list t.kind t.from self.old }
     {
         match t.kind {
             Kind::Number(value) => self.add_number(1, value, t.from),
             Kind::Count(value) => self.add_count(value, t.from),
             Kind::Word(word) => self.word_in_list(word, t.from),
-            Kind::End if !self.numbers.fresh => self.with_mode(Mode::Read),
+            Kind::End if !self.numbers.fresh => self.set_mode(Mode::Read),
             _ => self.fail(Error::Part, t.from),
         }
     }
 
     // The parentheses are closed, and the list has so many numbers.
     #[tactic(auto, unfolding(crate::specs::Modes::repeated))]
-    fn repeat(self, total: u64, action: Action, place: usize) -> Line
-        ensures { result ≡ repeated total action place self }
+    fn repeat(&mut self, total: u64, action: Action, place: usize)
+        ensures { self.new ≡ repeated total action place self.old }
     {
         if 4096 < total {
             return self.fail(Error::ListLength, place);
         }
-        self.with_numbers(Mode::List, self.numbers.closed(total, action))
+        self.set_numbers(Mode::List, self.numbers.closed(total, action))
     }
 
     // The parentheses close: those of a repetition, or of the first or second day of a week.
     #[tactic(auto, unfolding(crate::specs::Modes::group_closed, crate::specs::Modes::closed_at))]
-    fn close_group(self, place: usize, hours: u32) -> Line
-        ensures { result ≡ group_closed hours place self }
+    fn close_group(&mut self, place: usize, hours: u32)
+        ensures { self.new ≡ group_closed hours place self.old }
     {
         let n = self.numbers;
         match n.depth {
-            Depth::FirstDay if n.inner == 24 => self.with_mode(Mode::Day),
+            Depth::FirstDay if n.inner == 24 => self.set_mode(Mode::Day),
             Depth::SecondDay if n.inner == 48 => self.repeat(
                 u64::from(n.count) + u64::from(hours),
                 Action::Week,
@@ -211,8 +211,8 @@ impl Line {
     }
 
     #[tactic(auto, unfolding(crate::specs::Modes::in_group))]
-    pub(crate) fn in_group(self, t: Token, hours: u32) -> Line
-        ensures { result ≡ in_group hours t.kind t.from self }
+    pub(crate) fn in_group(&mut self, t: Token, hours: u32)
+        ensures { self.new ≡ in_group hours t.kind t.from self.old }
     {
         match t.kind {
             Kind::Number(value) => self.add_number(1, value, t.from),
@@ -223,26 +223,26 @@ impl Line {
     }
 
     #[tactic(auto, unfolding(crate::specs::Modes::in_counted))]
-    pub(crate) fn in_counted(self, t: Token) -> Line
-        ensures { result ≡ in_counted t.kind t.from self }
+    pub(crate) fn in_counted(&mut self, t: Token)
+        ensures { self.new ≡ in_counted t.kind t.from self.old }
     {
         let n = self.numbers;
         match t.kind {
             Kind::Number(value) => self.add_number(n.times, value, t.from),
             Kind::Left if !n.depth.is_inside() => {
-                self.with_numbers(Mode::Group, n.opened(Depth::Repetition))
+                self.set_numbers(Mode::Group, n.opened(Depth::Repetition))
             }
             _ => self.fail(Error::Counted, t.from),
         }
     }
 
     #[tactic(auto, unfolding(crate::specs::Modes::in_day))]
-    pub(crate) fn in_day(self, t: Token) -> Line
-        ensures { result ≡ in_day t.kind t.from self }
+    pub(crate) fn in_day(&mut self, t: Token)
+        ensures { self.new ≡ in_day t.kind t.from self.old }
     {
         let n = self.numbers;
         match t.kind {
-            Kind::Left => self.with_numbers(Mode::Group, n.opened(n.depth.next_day())),
+            Kind::Left => self.set_numbers(Mode::Group, n.opened(n.depth.next_day())),
             _ => self.fail(Error::Day, t.from),
         }
     }

@@ -1,7 +1,7 @@
 -- Bytes, runs, values, words and tokens of lines, by computation. Assumes nothing.
 use Prim.Native.Nat.{ℕ}
 use mathlib.Core.Path.{◌≡◌, refl}
-use mathlib.Core.List.{[], ◌∷◌}
+use mathlib.Core.List.{[], ◌∷◌, map}
 use Rattle.std.specs.Prelude.{Some, None}
 use Rattle.line_tokens.specs.declared.Class.TheVariants.{Blank, Digit, Letter, End, Left, Right, Dash, Other, Foreign}
 use Rattle.line_tokens.specs.declared.Kind.{Kind}
@@ -10,7 +10,7 @@ use Rattle.line_tokens.specs.declared.Token.{Token}
 use Rattle.line_tokens.specs.declared.words.Word.TheVariants as word
 use Rattle.line_tokens.specs.Words.{bytes, text_of, word_of}
 use Rattle.line_tokens.specs.Tokens.{class_of, is_of, run_from, span_from, byte_at, place_behind, value_of, single_kind, number_token, word_token}
-use Rattle.line_tokens.specs.Tokens.{token_by, token_from, token_at}
+use Rattle.line_tokens.specs.Tokens.{token_by, token_from, token_at, class_number, is_of_number, span_by}
 
 -- the edges of each class of byte: blanks among those that are no text
 blanks :
@@ -77,6 +77,30 @@ spans :
     × (span_from Letter [] 0 ≡ 0)
 unfolding span_from run_from is_of class_of
 spans = (refl, refl, refl, refl, refl, refl, refl, refl, refl, refl)
+
+-- the classes by their numbers
+numbered :
+    map class_number (Blank ∷ Digit ∷ Letter ∷ End ∷ Left ∷ Right ∷ Dash ∷ Other ∷ Foreign ∷ [])
+    ≡ 0 ∷ 1 ∷ 2 ∷ 3 ∷ 4 ∷ 5 ∷ 6 ∷ 7 ∷ 8 ∷ []
+unfolding class_number
+numbered = refl
+
+-- a run by the number of its class; no byte is of a number that no class has
+numbered_spans :
+    (span_by 0 (bytes "   a ") 0 ≡ 3)
+    × (span_by 0 (bytes "   a ") 9 ≡ 9)
+    × (span_by 1 (bytes "x2023-02") 1 ≡ 5)
+    × (span_by 2 (bytes "aZ9") 0 ≡ 2)
+    × (span_by 3 (bytes "##)") 0 ≡ 2)
+    × (span_by 4 (bytes "(()") 0 ≡ 2)
+    × (span_by 5 (bytes "))(") 0 ≡ 2)
+    × (span_by 6 (bytes "--5") 0 ≡ 2)
+    × (span_by 7 (bytes "!~#") 0 ≡ 2)
+    × (span_by 8 (10 ∷ 127 ∷ 32 ∷ []) 0 ≡ 2)
+    × (span_by 9 (bytes "   a ") 1 ≡ 1)
+    × (span_by 9 (10 ∷ 127 ∷ 32 ∷ []) 0 ≡ 0)
+unfolding span_by is_of_number class_number class_of
+numbered_spans = (refl, refl, refl, refl, refl, refl, refl, refl, refl, refl, refl, refl)
 
 -- digits to 18 of them
 values :

@@ -1,6 +1,6 @@
 -- The tokens of a line of a history file (docs/HISTORY-FILE.md, 'Words of a line'). A line is the list of its bytes.
 use Rattle.std.specs.Prelude.{ℕ, ◌+◌, ◌*◌, ◌%◌, min, Bool, true, false, cond, ◌&&◌, ◌||◌, List, eqb, leb, ltb, length, drop, get_or, fold}
-use Rattle.std.specs.List.{take_while}
+use Rattle.std.specs.List.{take_while, prefix_len}
 use Rattle.line_tokens.specs.declared.Class.{Class}
 use Rattle.line_tokens.specs.declared.Class.TheVariants.{Blank, Digit, Letter, End, Left, Right, Dash, Other, Foreign}
 use Rattle.line_tokens.specs.declared.Kind.{Kind}
@@ -47,6 +47,26 @@ run_from class line from = take_while (is_of class) (drop from line)
 -- the first place from `from` on whose byte is not of a class
 unfoldable pub span_from : Class → List ℕ → ℕ → ℕ
 span_from class line from = from + length (run_from class line from)
+
+-- the number of a class
+unfoldable pub class_number : Class → ℕ
+class_number Blank = 0
+class_number Digit = 1
+class_number Letter = 2
+class_number End = 3
+class_number Left = 4
+class_number Right = 5
+class_number Dash = 6
+class_number Other = 7
+class_number Foreign = 8
+
+-- whether a byte is of the class with a number
+unfoldable pub is_of_number : ℕ → ℕ → Bool
+is_of_number class b = eqb (class_number (class_of b)) class
+
+-- the first place from `from` on whose byte is not of the class with this number: `from` itself for a number that no class has
+unfoldable pub span_by : ℕ → List ℕ → ℕ → ℕ
+span_by class line from = from + prefix_len (is_of_number class) (drop from line)
 
 -- a byte; past the end of the line it is as if # stood there
 unfoldable pub byte_at : List ℕ → ℕ → ℕ

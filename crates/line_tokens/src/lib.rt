@@ -4,8 +4,8 @@
 
 ghost use Rattle.std.specs.Prelude.{◌≡◌, ◌≤◌, ◌-◌, length};
 ghost use Rattle.std.specs.List.{prefix_len};
-ghost use Rattle.line_tokens.specs.Tokens.{class_of, is_of, run_from, span_from, byte_at, place_behind, value_of, single_kind};
-ghost use Rattle.line_tokens.specs.Tokens.{number_token, word_token, token_at};
+ghost use Rattle.line_tokens.specs.Tokens.{class_of, is_of, run_from, span_from, class_number, is_of_number, span_by, byte_at, place_behind};
+ghost use Rattle.line_tokens.specs.Tokens.{value_of, single_kind, number_token, word_token, token_at};
 
 pub mod words;
 
@@ -93,12 +93,51 @@ fn run(line: &[u8], from: usize, class: Class) -> &[u8]
     &rest[..leading(rest, class)]
 }
 
-// The first place from `from` on whose byte is not of a class, or the end of the line.
-#[tactic(auto, unfolding(crate::specs::Tokens::span_from))]
-pub fn span(line: &[u8], from: usize, class: Class) -> usize
-    ensures { result ≡ span_from class line.now from }
+impl Class {
+    // The first place from `from` on whose byte is not of the class, or the end of the line.
+    #[tactic(auto, unfolding(crate::specs::Tokens::span_from))]
+    pub fn span(self, line: &[u8], from: usize) -> usize
+        ensures { result ≡ span_from self line.now from }
+    {
+        from + run(line, from, self).len()
+    }
+
+    // Its number: the place among the classes, from 0.
+    #[tactic(auto, unfolding(crate::specs::Tokens::class_number))]
+    pub fn number(self) -> u32
+        ensures { result ≡ class_number self }
+    {
+        self as u32
+    }
+}
+
+// Whether a byte is of the class with a number.
+#[tactic(auto, unfolding(crate::specs::Tokens::is_of_number))]
+fn is_of_number(b: u8, class: u32) -> bool
+    ensures { result ≡ is_of_number class b }
 {
-    from + run(line, from, class).len()
+    class_of(b).number() == class
+}
+
+// How many bytes of the class with a number stand at the start.
+fn leading_by(bytes: &[u8], class: u32) -> usize
+    ensures count { result ≡ prefix_len (is_of_number class) bytes.now }
+    ensures within { result ≤ length bytes.now }
+{
+    bytes
+        .iter()
+        .take_while(|b| is_of_number(**b, class))
+        .count()
+}
+
+// The first place from `from` on whose byte is not of the class with this number, or the end of the line: `from` itself for a
+// number that no class has.
+#[tactic(auto, unfolding(crate::specs::Tokens::span_by))]
+pub fn span(line: &[u8], from: usize, class: u32) -> usize
+    ensures { result ≡ span_by class line.now from }
+{
+    let rest = line.get(from..).unwrap_or(&[]);
+    from + leading_by(rest, class)
 }
 
 // A byte of the line; past its end the byte that ends it, which is what stands for none in the definition as well.
@@ -178,7 +217,7 @@ fn single_kind(class: Class) -> Kind
 pub fn token_at(line: &[u8], at: usize) -> Token
     ensures { result ≡ token_at line.now at }
 {
-    let from = span(line, at, Class::Blank);
+    let from = Class::Blank.span(line, at);
     match class_of(byte_at(line, from)) {
         Class::Digit => number_token(line, from),
         Class::Letter => word_token(line, from),

@@ -13,8 +13,11 @@ use Rattle.sharing.proofs.Rule.{apart_same}
 use Rattle.marks.specs.Marks.{peak_at, peak_count}
 use Rattle.marks.specs.Peak.{peak_part, peak_rule, Flags}
 
+pub flags_start : (marks : List ℕ) (flags : List Bool) → length flags ≡ 744 → Flags marks flags 0
+flags_start marks flags e = record { long = e; is = λ h l. absurd (not-suc-le-zero l) }
+
 pub flags_none : (marks : List ℕ) → Flags marks (replicate 744 false) 0
-flags_none marks = record { long = length-replicate 744 false; is = λ h l. absurd (not-suc-le-zero l) }
+flags_none marks = flags_start marks (replicate 744 false) (length-replicate 744 false)
 
 pub flags_more : {marks : List ℕ} {flags : List Bool} {h : ℕ} (b : Bool)
     → Flags marks flags h → h < 744 → b ≡ peak_at marks h → Flags marks (set flags h b) (h + 1)

@@ -7,18 +7,16 @@ use super::days::{count_peaks, is_peak};
 use sharing::{Unfit, share_apart};
 use units::{Kw, Kwh, energy};
 
-// The peak hours of up to 744 marks as flags, in an array of its own, since there is no heap. They are written by place: the
-// array is longer than the marks, and what is behind them stays.
-#[tactic(auto, using(crate::proofs::Flag::flags_none, crate::proofs::Flag::flags_more))]
-fn flag_peaks(marks: &[u8]) -> [bool; 744]
+// The peak hours of up to 744 marks as flags, in an array that is lent, since there is no heap, and one that is returned is
+// copied. They are written by place: the array is longer than the marks, and what is behind them stays.
+#[tactic(auto, using(crate::proofs::Flag::flags_start, crate::proofs::Flag::flags_more))]
+fn flag_peaks(marks: &[u8], flags: &mut [bool; 744])
     requires { length marks.now ≤ 744 }
-    ensures { Flags marks.now result (length marks.now) }
+    ensures { Flags marks.now flags.new (length marks.now) }
 {
-    let mut flags = [false; 744];
     for (h, mark) in marks.iter().enumerate() {
         flags[h] = is_peak(*mark);
     }
-    flags
 }
 
 // A: what of the volume the peak hours take at the power, of which there are n. It is the least of two numbers, as the contract
@@ -42,7 +40,8 @@ pub fn peak_rule(volume: Kwh, power: Kw, marks: &[u8], hours: &mut [u32]) -> Res
     if t > 744 {
         return Err(Unfit);
     }
-    let flags = flag_peaks(marks);
+    let mut flags = [false; 744];
+    flag_peaks(marks, &mut flags);
     let part = peak_part(volume, count_peaks(marks), power);
     let rest = Kwh(volume.0 - part.0);
     share_apart(part, rest, &flags[0..t], hours)

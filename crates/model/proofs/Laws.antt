@@ -28,7 +28,7 @@ use Rattle.model.specs.Model.{refused_figures}
 use Rattle.model.specs.Model.{answer, buffer_after, Does}
 use Rattle.model.specs.declared.Answer.{Answer}
 use Rattle.model.specs.declared.refusals.Refusal.{Refusal}
-use Rattle.model.specs.Refused.{refusal_number, Gives, answered, GivesPoint}
+use Rattle.model.specs.Refused.{refusal_number, number_of, Gives, answered, GivesPoint}
 use Rattle.model.specs.Opening.{opens, opened, open_leaves, open_answer, Opens}
 
 -- where a list of refusals gives n, a test with another number did not apply, and the rest of the list gives n
@@ -144,14 +144,15 @@ unfolding figures_of hours_out
 quiet s c e = (rw e, rw e, no_buffer c e)
 
 -- it does what it comes to
-pub call_does : (s : State) (c : Call) (x : Result Record Refusal) (after : List ℕ) → is_closing c ≡ false → Gives s c x after
-    → Does s c (answered x s.point) after []
+pub call_does : (s : State) (c : Call) (x : Result (Unit {0}) Refusal) (after : State) → is_closing c ≡ false → Gives s c x after
+    → Does s c (without_figures (number_of x) after.point) after.store []
 unfolding answer leaves buffer_after
-call_does s c (Ok r) after f g =
+call_does s c (Ok u) after f g =
     let q = quiet s c f in
     done s c g.0 refl q.0 q.1 (rw (← g.1)) (rw (← g.1))
 call_does s c (Err e) after f g =
-    let said : answered (Err e) s.point ≡ record { refusal = refusal_number e; after = s.point; figures = refused_figures (refusal_number e) c } =
+    let said : without_figures (refusal_number e) s.point
+    ≡ record { refusal = refusal_number e; after = s.point; figures = refused_figures (refusal_number e) c } =
     rw (no_day (refusal_number e) c f) in
     rw g.1 (rw (quiet s c f).2 at (refused s c g.0 (numbered e) said))
 

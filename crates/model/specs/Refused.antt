@@ -81,12 +81,12 @@ number_or (Err e) rest = refusal_number e
 abbrev pub number_of : {A : Type 0} → Result A Refusal → ℕ
 number_of x = number_or x 0
 
--- WHAT A CALL THAT IS NO CLOSING COMES TO: the record after it, or why it is refused. An accepted one leaves that record and the store; a refused
--- one leaves the store as it was
-abbrev pub Gives : State → Call → Result Record Refusal → List ℕ → Type 0
-Gives s c x store = (number_of x ≡ refusal s c) × MatchResult x (λ after. state after store ≡ accept s c) (λ e. store ≡ s.store)
+-- WHAT A CALL THAT IS NO CLOSING COMES TO: whether it is refused, and the record and the store behind it. An accepted one leaves what the rules
+-- give, a refused one leaves both as they were
+abbrev pub Gives : State → Call → Result (Unit {0}) Refusal → State → Type 0
+Gives s c x after = (number_of x ≡ refusal s c) × MatchResult x (λ done. after ≡ accept s c) (λ e. after ≡ s)
 
--- its answer; a refused call returns the record before it
+-- the answer of an opening; a refused one returns the record that is given beside it
 abbrev pub answered : Result Record Refusal → Record → Answer
 answered (Ok after) before = without_figures 0 after
 answered (Err e) before = without_figures (refusal_number e) before

@@ -3,7 +3,7 @@
 
 ghost use Rattle.std.specs.Prelude.{◌≡◌};
 ghost use Rattle.model.specs.Model.{without_figures, only_day};
-ghost use Rattle.model.specs.Refused.{refusal_number, answered};
+ghost use Rattle.model.specs.Refused.{refusal_number, number_of, answered};
 
 use record::Record;
 use refusals::Refusal;
@@ -62,7 +62,19 @@ impl Answer {
     }
 }
 
-// What a call that is no closing answers: the record after it, or why it is refused.
+// What a call that is no closing answers: the record that it left, with the number of its refusal, if it has one. A refused call
+// left the record that came.
+pub fn answer_behind(outcome: Result<(), Refusal>, after: Record) -> Answer
+    ensures { result ≡ without_figures (number_of outcome) after }
+{
+    let number = match outcome {
+        Ok(()) => 0,
+        Err(refusal) => refusal.number(),
+    };
+    Answer::without_figures(number, after)
+}
+
+// What an opening answers: the record of its point, or why it is refused.
 pub fn answer_of(outcome: Result<Record, Refusal>, before: Record) -> Answer
     ensures { result ≡ answered outcome before }
 {

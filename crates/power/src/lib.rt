@@ -39,11 +39,15 @@ fn agreed_power(p: Kw) -> Kw
     if agreed_fits(p) { p } else { Kw(0) }
 }
 
-// Whether each current is within its limits.
+// Whether each current is within its limits. The flag has no early return, so that the loop takes several currents at a time.
 fn currents_fit(currents: &[u32]) -> bool
     ensures { result ≡ list_all (λ x. leb 1 x && leb x 2000) currents.now }
 {
-    currents.iter().all(|x| (1..=2000).contains(x))
+    let mut ok = true;
+    for x in currents {
+        ok &= (1..=2000).contains(x);
+    }
+    ok
 }
 
 // Whether a list of currents and a place in it are within their limits, so that a power can be shared by them.

@@ -14,7 +14,7 @@ ghost use Rattle.readings.specs.Meters.{FindsSource};
 use calendar::open_hours;
 use contract::Contract;
 use model::refusals::{Refusal, check_anyone, refuse_if};
-use model::{Answer, answer_of};
+use model::{Answer, answer_behind};
 use numbers::none_above;
 use record::changes::{given_as, given_hours};
 use record::{Reading, ReadingOf, Readings, Record, Service};
@@ -86,13 +86,13 @@ impl Meter {
         }
     }
 
-    // The record with this meter's reading.
-    fn give(self, r: Record, x: Reading) -> Record
-        ensures { result ≡ with_readings r (with_reading self r.readings x) }
+    // The record gets this meter's reading.
+    fn give(self, r: &mut Record, x: Reading)
+        ensures { r.new ≡ with_readings r.old (with_reading self r.old.readings x) }
     {
         match self {
-            Meter::Billing => r.with_reading(ReadingOf::Billing, x),
-            Meter::Control => r.with_reading(ReadingOf::Control, x),
+            Meter::Billing => r.set_reading(ReadingOf::Billing, x),
+            Meter::Control => r.set_reading(ReadingOf::Control, x),
         }
     }
 }
@@ -131,13 +131,13 @@ impl Source {
         }
     }
 
-    // The record with this source's reading.
-    fn give(self, r: Record, x: Reading) -> Record
-        ensures { result ≡ with_readings r (with_source r.readings (source_number self) x) }
+    // The record gets this source's reading.
+    fn give(self, r: &mut Record, x: Reading)
+        ensures { r.new ≡ with_readings r.old (with_source r.old.readings (source_number self) x) }
     {
         match self {
-            Source::First => r.with_reading(ReadingOf::First, x),
-            Source::Second => r.with_reading(ReadingOf::Second, x),
+            Source::First => r.set_reading(ReadingOf::First, x),
+            Source::Second => r.set_reading(ReadingOf::Second, x),
         }
     }
 }
@@ -168,36 +168,39 @@ fn has_hour_above(hours: &[u32]) -> bool
 }
 
 #[tactic(auto, using(crate::proofs::Laws::hours_laws))]
-fn try_hours(r: Record, store: &mut [u32], meter: Meter, hours: &[u32]) -> Result<Record, Refusal>
-    ensures { Gives (state r store.old) (hours_call meter hours.now) result store.new }
+fn try_hours(r: &mut Record, store: &mut [u32], meter: Meter, hours: &[u32]) -> Result<(), Refusal>
+    ensures { Gives (state r.old store.old) (hours_call meter hours.now) result (state r.new store.new) }
 {
     let t = open_hours(r.date) as usize;
-    check_meter(store.len(), r, meter, Form::Hours)?;
+    check_meter(store.len(), *r, meter, Form::Hours)?;
     refuse_if(hours.len() != t, Refusal::NotMonthHours)?;
     refuse_if(has_hour_above(hours), Refusal::ReadingAboveLimit)?;
     write_row(store, meter.row(), hours);
-    Ok(meter.give(r, given_hours()))
+    meter.give(r, given_hours());
+    Ok(())
 }
 
 #[tactic(auto, using(crate::proofs::Laws::volume_number, crate::proofs::Laws::volume_left), unfolding(model::proofs::Laws::call_definitions))]
-fn try_volume(r: Record, store: &[u32], meter: Meter, volume: Kwh) -> Result<Record, Refusal>
-    ensures { Gives (state r store.now) (volume_call meter volume.0) result store.now }
+fn try_volume(r: &mut Record, store: &[u32], meter: Meter, volume: Kwh) -> Result<(), Refusal>
+    ensures { Gives (state r.old store.now) (volume_call meter volume.0) result (state r.new store.now) }
 {
-    check_meter(store.len(), r, meter, Form::Volume)?;
-    check_volume(r, volume)?;
-    Ok(meter.give(r, given_as(volume)))
+    check_meter(store.len(), *r, meter, Form::Volume)?;
+    check_volume(*r, volume)?;
+    meter.give(r, given_as(volume));
+    Ok(())
 }
 
 // The source is the number that C gives, and is judged behind 1 to 3.
 #[tactic(auto, unfolding(model::proofs::Laws::call_definitions))]
-fn try_neighbour(r: Record, store: &[u32], source: u32, volume: Kwh) -> Result<Record, Refusal>
-    ensures { Gives (state r store.now) (read (neighbour source volume.0)) result store.now }
+fn try_neighbour(r: &mut Record, store: &[u32], source: u32, volume: Kwh) -> Result<(), Refusal>
+    ensures { Gives (state r.old store.now) (read (neighbour source volume.0)) result (state r.new store.now) }
 {
-    check_anyone(store.len(), r)?;
+    check_anyone(store.len(), *r)?;
     let source = Source::try_from(source)?;
-    refuse_if(source.is_given(r), Refusal::AlreadyGiven)?;
-    check_volume(r, volume)?;
-    Ok(source.give(r, given_as(volume)))
+    refuse_if(source.is_given(*r), Refusal::AlreadyGiven)?;
+    check_volume(*r, volume)?;
+    source.give(r, given_as(volume));
+    Ok(())
 }
 
 // The hours of an interval billing meter. Document 01 has a call for each meter and form, and C a function for each, so the
@@ -206,7 +209,9 @@ fn try_neighbour(r: Record, store: &[u32], source: u32, volume: Kwh) -> Result<R
 pub fn read_billing_hours(r: Record, store: &mut [u32], hours: &[u32]) -> Answer
     ensures { Does (state r store.old) (read (billing_hours hours.now)) result store.new [] }
 {
-    answer_of(try_hours(r, store, Meter::Billing, hours), r)
+    let mut after = r;
+    let outcome = try_hours(&mut after, store, Meter::Billing, hours);
+    answer_behind(outcome, after)
 }
 
 // The hours of an interval control meter.
@@ -214,7 +219,9 @@ pub fn read_billing_hours(r: Record, store: &mut [u32], hours: &[u32]) -> Answer
 pub fn read_control_hours(r: Record, store: &mut [u32], hours: &[u32]) -> Answer
     ensures { Does (state r store.old) (read (control_hours hours.now)) result store.new [] }
 {
-    answer_of(try_hours(r, store, Meter::Control, hours), r)
+    let mut after = r;
+    let outcome = try_hours(&mut after, store, Meter::Control, hours);
+    answer_behind(outcome, after)
 }
 
 // The volume of an integral billing meter.
@@ -222,7 +229,9 @@ pub fn read_control_hours(r: Record, store: &mut [u32], hours: &[u32]) -> Answer
 pub fn read_billing_volume(r: Record, store: &[u32], volume: Kwh) -> Answer
     ensures { Does (state r store.now) (read (billing_volume volume.0)) result store.now [] }
 {
-    answer_of(try_volume(r, store, Meter::Billing, volume), r)
+    let mut after = r;
+    let outcome = try_volume(&mut after, store, Meter::Billing, volume);
+    answer_behind(outcome, after)
 }
 
 // The volume of an integral control meter.
@@ -230,7 +239,9 @@ pub fn read_billing_volume(r: Record, store: &[u32], volume: Kwh) -> Answer
 pub fn read_control_volume(r: Record, store: &[u32], volume: Kwh) -> Answer
     ensures { Does (state r store.now) (read (control_volume volume.0)) result store.now [] }
 {
-    answer_of(try_volume(r, store, Meter::Control, volume), r)
+    let mut after = r;
+    let outcome = try_volume(&mut after, store, Meter::Control, volume);
+    answer_behind(outcome, after)
 }
 
 // A neighbour's volume, of source 1, its billing meter, or 2, its control meter; C gives the source as a number, which 20 judges.
@@ -238,5 +249,7 @@ pub fn read_control_volume(r: Record, store: &[u32], volume: Kwh) -> Answer
 pub fn read_neighbour(r: Record, store: &[u32], source: u32, volume: Kwh) -> Answer
     ensures { Does (state r store.now) (read (neighbour source volume.0)) result store.now [] }
 {
-    answer_of(try_neighbour(r, store, source, volume), r)
+    let mut after = r;
+    let outcome = try_neighbour(&mut after, store, source, volume);
+    answer_behind(outcome, after)
 }

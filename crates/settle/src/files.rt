@@ -78,7 +78,7 @@ impl Command {
         counts.errors = counts.errors.saturating_add(1);
         let answers = &mut self.player.answers;
         match answers.layout.form {
-            Form::Programs => answers.put_record::<u64>(b"error", 0, &[0, 0]),
+            Form::Programs => answers.put_bad_line(0, 0, 0),
             Form::People => {
                 answers.text.put(name);
                 answers.text.put(b": cannot be read\n");

@@ -51,7 +51,7 @@ impl History {
     fn end_line<const N: usize>(&mut self, player: &mut Player<N>) {
         player.line = player.line.saturating_add(1);
         if self.long {
-            player.bad_line(LINE_ROOM as u64 + 1, Error::LongLine);
+            player.bad_line(LINE_ROOM as u64 + 1, Error::LongLine.number());
         } else {
             player.play_line(self.line.as_slice(), &mut self.store);
         }

@@ -1,10 +1,12 @@
 // What is written of a call, of an error, of a closed month and of all files.
-ghost use Rattle.std.specs.Prelude.{◌≡◌};
+ghost use Rattle.std.specs.Prelude.{◌≡◌, ◌++◌, Some, OnOk, codes, decimal};
+ghost use Rattle.text.specs.Text.{PutWhole};
 
 use super::months::{Month, Sheet};
-use super::wording::{call_words, error_words, month_name, refusal_words};
+use super::wording::{call_words, month_name, refusal_words, words_of_error};
 use calendar::Date;
-use line_reader::{Call, Error};
+use line_reader::Call;
+use std::fmt;
 use text::Buffer;
 
 // Whom answers are for: people, who get sentences and sheets, or programs, which get records: a word, then numbers in base
@@ -32,8 +34,9 @@ pub struct Counts {
     pub errors: u64,
 }
 
-// Answers, with room for N bytes, and how they are written. What is written is not proved; that the layout stays is what a caller
-// may rely on, so each function promises it.
+// Answers, with room for N bytes, and how they are written. What is put and printed stands behind what was written, as `Buffer`
+// promises; which words an answer has is proved of `print_accepted` alone, as an example. What `print` answers is not asked, since
+// no value here fails. That the layout stays is what a caller may rely on, so each function promises it.
 #[derive(Drop)]
 pub struct Answers<const N: usize> {
     pub layout: Layout,
@@ -54,32 +57,48 @@ impl<const N: usize> Answers<N> {
                 line,
                 &[u64::from(call.number()), u64::from(refusal), wrong_day],
             ),
-            Form::People if refusal == 0 => self
-                .text
-                .print(format_args!("line {line}: {words}: accepted\n")),
-            Form::People if wrong_day == 0 => self.text.print(format_args!(
-                "line {line}: {words}: refused {refusal}, {why}\n"
-            )),
+            Form::People if refusal == 0 => {
+                let _ = self.print_accepted(line, words);
+            }
+            Form::People if wrong_day == 0 => {
+                let _ = self.text.print(format_args!(
+                    "line {line}: {words}: refused {refusal}, {why}\n"
+                ));
+            }
             Form::People => {
                 let Date { year, month } = open;
                 let name = month_name(month);
-                self.text.print(format_args!(
+                let _ = self.text.print(format_args!(
                     "line {line}: {words}: refused {refusal}, {why}: day {wrong_day}, {wrong_day} {name} {year}\n"
-                ))
+                ));
             }
         }
     }
 
-    // A line that is no call, with the column of its error and what was expected there.
-    pub fn put_error(&mut self, line: u64, column: u64, error: Error)
+    // The sentence of a call that is accepted. Its clause spells the words out, as an example of what `print` promises of a format.
+    fn print_accepted(&mut self, line: u64, words: &str) -> fmt::Result
+        ensures layout { self.new.layout ≡ self.old.layout }
+        ensures sentence { OnOk result (PutWhole N
+            (Some (codes "line " ++ (decimal line ++ (codes ": " ++ (words.now ++ codes ": accepted\n")))))
+            self.old.text self.new.text) }
+    {
+        self.text
+            .print(format_args!("line {line}: {words}: accepted\n"))
+    }
+
+    // A line that is no call, with the column of its error and what was expected there. The error is any number, as in the records
+    // for programs: one that stands for nothing, as the 0 of a file that cannot be read, has no words.
+    pub fn put_bad_line(&mut self, line: u64, column: u64, error: u32)
         ensures { self.new.layout ≡ self.old.layout }
     {
-        let words = error_words(error);
+        let words = words_of_error(error);
         match self.layout.form {
-            Form::Programs => self.put_record(b"error", line, &[column, u64::from(error.number())]),
-            Form::People => self.text.print(format_args!(
-                "line {line}: error at column {column}, {words}\n"
-            )),
+            Form::Programs => self.put_record(b"error", line, &[column, u64::from(error)]),
+            Form::People => {
+                let _ = self.text.print(format_args!(
+                    "line {line}: error at column {column}, {words}\n"
+                ));
+            }
         }
     }
 
@@ -97,11 +116,13 @@ impl<const N: usize> Answers<N> {
                     self.put_record(b"hours", month.line, hours);
                 }
             }
-            Form::People => self.text.print(Sheet {
-                month,
-                hours,
-                table,
-            }),
+            Form::People => {
+                let _ = self.text.print(Sheet {
+                    month,
+                    hours,
+                    table,
+                });
+            }
         }
     }
 
@@ -117,9 +138,11 @@ impl<const N: usize> Answers<N> {
         let calls = accepted.saturating_add(refused);
         match self.layout.form {
             Form::Programs => self.put_record(b"end", calls, &[accepted, refused, errors]),
-            Form::People => self.text.print(format_args!(
-                "calls {calls}, accepted {accepted}, refused {refused}, errors {errors}\n"
-            )),
+            Form::People => {
+                let _ = self.text.print(format_args!(
+                    "calls {calls}, accepted {accepted}, refused {refused}, errors {errors}\n"
+                ));
+            }
         }
     }
 

@@ -128,3 +128,11 @@ pub(crate) fn error_words(error: Error) -> &'static str {
         Error::Last => "the end of the line was expected",
     }
 }
+
+// The same by its number, as in the records for programs; a number that no error has has no sentence.
+pub(crate) fn words_of_error(number: u32) -> &'static str {
+    match Error::try_from(number) {
+        Ok(error) => error_words(error),
+        Err(_) => "",
+    }
+}

@@ -12,14 +12,18 @@ use lib.Dec.{eqb, leb}
 use lib.ListN.{length, take, drop, length-append, length-take, length-drop, length-replicate, get_or-append}
 use lib.Seq.{ext_get_or, get_or-take, get_or-drop, get_or-append-add, take_at, drop_at, length-take-le, take_all}
 use Rattle.std.proofs.lemmas.List.{drop-replicate}
-use Rattle.numbers.specs.Lists.{at, zeros, padded, none_above}
-use Rattle.numbers.proofs.Laws.{both, none_above_at, none_above_from, at_zeros, at_more}
-use Rattle.store.specs.Store.{row_fits, as_row, put_row, written_in, empty_store, store_fits}
+use Rattle.numbers.specs.Lists.{at, zeros, padded, none_above, Filled}
+use Rattle.numbers.proofs.Laws.{both, tab_at, none_above_at, none_above_from, at_zeros, at_more}
+use Rattle.store.specs.Store.{row_part, row_fits, as_row, put_row, written_in, empty_store, store_fits}
 
 -- a list copied over the front of zeros
 pub copied : {d part : List ℕ} (m : ℕ) (xs : List ℕ) → part ≡ xs → d ≡ zeros m → part ++ drop (length xs) d ≡ padded m xs
 unfolding padded
 copied m xs e z = rw (e, z, drop-replicate) refl
+
+-- and word by word
+pub copied_words : {d l : List ℕ} (m : ℕ) (xs : List ℕ) → Filled (at xs) d l (length xs) → d ≡ zeros m → l ≡ padded m xs
+copied_words m xs filled e = filled.is ∙ copied m xs (tab_at xs) e
 
 -- hours keep their words as a row
 pub at_row : (hours : List ℕ) (k : ℕ) → at (as_row hours) k ≡ at hours k
@@ -56,6 +60,11 @@ row_fits_lem {size} {r} {t} e =
 pub row_there : {size r t : ℕ} → size ≡ 10416 → r ≤ 13 → t ≤ 744 → row_fits size r t ≡ true
 unfolding row_fits
 row_there {size} {r} {t} whole row few = rw (eq-eqb size 10416 whole, le-leb r 13 row, le-leb t 744 few)
+
+-- so that its hours are lent
+pub lent_there : (store : List ℕ) (r t : ℕ) → length store ≡ 10416 → r ≤ 13 → t ≤ 744
+    → cond (row_fits (length store) r t) (row_part store r t) [] ≡ row_part store r t
+lent_there store r t whole row few = rw (row_there whole row few) refl
 
 -- hours written into such a store make the row
 pub written_in_lem : (r : ℕ) (hours store : List ℕ) → r ≤ 13 → length hours ≤ 744 → length store ≡ 10416

@@ -2,8 +2,8 @@
 // so that no other word can change.
 #![tactic(auto)]
 
-ghost use Rattle.std.specs.Prelude.{◌≡◌, true, cond, ◌&&◌, [], ◌≤◌, eqb, length};
-ghost use Rattle.numbers.specs.Lists.{padded};
+ghost use Rattle.std.specs.Prelude.{◌≡◌, cond, ◌&&◌, [], ◌≤◌, eqb, length};
+ghost use Rattle.numbers.specs.Lists.{at, padded, Filled};
 ghost use Rattle.store.specs.Store.{row_part, row_fits, written_in, empty_store, store_fits};
 
 use numbers::{clear, none_above};
@@ -16,14 +16,26 @@ pub fn row_fits(size: usize, row: usize, t: usize) -> bool
     (size == 10416) & (row <= 13) & (t <= 744)
 }
 
+// The words of a list into the front of a row, one by one: for std's `copy_from_slice` the library for C would ask its host for
+// `memmove` beside `memcpy` and `memset`.
+#[tactic(auto, using(numbers::proofs::Laws::filled_none, numbers::proofs::Laws::filled_more, numbers::proofs::Laws::filled_end))]
+fn copy_words(row: &mut [u32], hours: &[u32])
+    requires { length hours.now ≤ length row.old }
+    ensures { Filled (at hours.now) row.old row.new (length hours.now) }
+{
+    for (h, hour) in hours.iter().enumerate() {
+        row[h] = *hour;
+    }
+}
+
 // A list of hours into a row, or into the hour buffer, which is as long as a row, and 0 from its end on.
-#[tactic(auto, using(crate::proofs::Laws::copied))]
+#[tactic(auto, using(crate::proofs::Laws::copied_words))]
 pub fn copy_row(row: &mut [u32], hours: &[u32])
     requires { length hours.now ≤ length row.old }
     ensures { row.new ≡ padded (length row.old) hours.now }
 {
     clear(row);
-    row[..hours.len()].copy_from_slice(hours);
+    copy_words(row, hours);
 }
 
 // The hours of a list become row r, with 0 from their end on. A store that is not 14 rows, a row that it does not have,
@@ -39,12 +51,14 @@ pub fn write_row(store: &mut [u32], row: usize, hours: &[u32])
     }
 }
 
-// The first t hours of a row that the store has, as a part of it.
+// The first t hours of a row, as a part of the store; none where the store has no such part.
 #[tactic(auto, using(crate::proofs::Laws::row_fits_lem))]
 pub fn row_hours(store: &[u32], row: usize, t: usize) -> &[u32]
-    requires { row_fits (length store.now) row t ≡ true }
-    ensures { result.now ≡ row_part store.now row t }
+    ensures { result.now ≡ cond (row_fits (length store.now) row t) (row_part store.now row t) [] }
 {
+    if !row_fits(store.len(), row, t) {
+        return &[];
+    }
     let start = 744 * row;
     let end = start + t;
     &store[start..end]

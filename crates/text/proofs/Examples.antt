@@ -3,6 +3,7 @@ use mathlib.Core.Bool.{true, false}
 use mathlib.Core.Path.{◌≡◌, refl}
 use mathlib.Core.List.{[], ◌∷◌}
 use Rattle.numbers.specs.Lists.{zeros}
+use Rattle.text.specs.Places.{has_room_at}
 use Rattle.text.specs.Text.{has_room, with_text}
 
 -- a text has to end with the room at the latest
@@ -17,6 +18,19 @@ rooms :
     × (has_room 0 [] [] ≡ true)
     × (has_room 5 (1 ∷ []) (zeros 7) ≡ false)
 rooms = (refl, refl, refl, refl, refl, refl, refl, refl, refl)
+
+-- the same at a place of a buffer, to which a place past its end does not belong
+rooms_at :
+    (has_room_at (1 ∷ 2 ∷ []) 0 (zeros 2) ≡ true)
+    × (has_room_at (1 ∷ 2 ∷ []) 0 (zeros 1) ≡ false)
+    × (has_room_at (1 ∷ 2 ∷ []) 3 (zeros 5) ≡ true)
+    × (has_room_at (1 ∷ 2 ∷ []) 4 (zeros 5) ≡ false)
+    × (has_room_at (1 ∷ 2 ∷ []) 5 (zeros 5) ≡ false)
+    × (has_room_at [] 5 (zeros 5) ≡ true)
+    × (has_room_at [] 6 (zeros 5) ≡ false)
+    × (has_room_at [] 0 [] ≡ true)
+    × (has_room_at (1 ∷ []) 7 (zeros 5) ≡ false)
+rooms_at = (refl, refl, refl, refl, refl, refl, refl, refl, refl)
 
 -- a text without room is left out whole
 puts :

@@ -1,1 +1,2 @@
+pub mod Places
 pub mod Text

@@ -7,5 +7,5 @@ use Rattle.marks.proofs.peak.peak_rule.Goals as goal
 pub returns : goal.returns
 unfolding peak_count
 returns c =
-    peak_shared _ _ _ (part_of c.flag_peaks-flags.ensures c.if-t-gt744.false) c.peak_part-part.ensures c.count_peaks.ensures.is
+    peak_shared _ _ _ (part_of c.flag_peaks.ensures c.if-t-gt744.false) c.peak_part-part.ensures c.count_peaks.ensures.is
     (rw sub-zero at c.share_apart.ensures)

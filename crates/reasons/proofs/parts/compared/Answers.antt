@@ -1,5 +1,5 @@
 -- By the two readings.
-use Rattle.std.proofs.Common.{ap, sym, ◌∙◌}
+use Rattle.std.proofs.Common.{◌≡◌, ◌-◌, ap, sym, ◌∙◌, arith}
 use Rattle.std.specs.Prelude.{option_map}
 use Rattle.record.specs.Record.{kwh}
 use Rattle.first_ground.specs.Metered.{measured_of}
@@ -11,7 +11,10 @@ use Rattle.reasons.proofs.parts.compared.Goals as goal
 pub returns-in-Volume-control : goal.returns-in-Volume-control
 unfolding compared_by
 returns-in-Volume-control c =
-    (rw c.less_neighbour.ensures at c.compared_past.ensures)
+    let k = c.in-Volume-control.k.0 in
+    let most = c.args.counts.now.fit.control.volume k (ap measured_of c.in-Volume-control.is) in
+    let left : c.less_neighbour.result.0 ≡ k - c.args.counts.now.neighbour.0 = omega (arith, most) in
+    (rw left at c.compared_past.ensures)
     ∙ ap (option_map kwh) (sym (compared_as (inputs_of c.args.counts.now) (ap measured_of c.in-Missing.is) (ap measured_of c.in-Volume-control.is)))
 
 pub returns-in-Missing-control : goal.returns-in-Missing-control
