@@ -90,26 +90,32 @@ pub same_taken : {len room count : ℕ} {now bytes : List ℕ} → now ≡ bytes
 same_taken {len} {room} {count} {now} {bytes} same e fits least =
     ap (take count) same ∙ ap (λ n. take n bytes) (omega (arith, e, fits, least, ap length same))
 
--- what is put in pieces into the rest of a room is put so behind what stands in front of it
-pub printed_behind : (room start count end : ℕ) (all part now rest front : List ℕ) (shown : Option (List ℕ))
-    → take start all ≡ front → start ≤ room → length all ≡ room → part ≡ take (length all - start) (drop start all)
-    → length now ≡ length part → count ≤ length part → end ≡ start + count → PutInPieces (length part) shown [] (take count now)
-    → PutInPieces room shown front (take end (take start all ++ (now ++ rest)))
-printed_behind room start count end all part now rest front None b h e t l fits n p = tt
-printed_behind room start count end all part now rest front (Some text) b h e t l fits n p =
-    let long : length front ≡ start = ap length (sym b) ∙ length-take-le start all (omega (arith, h, e)) in
-    let left : length part ≡ room - length front =
-    ap length t ∙ length-take-le (length all - start) (drop start all) (omega (arith, length-drop start all))
-    ∙ omega (arith, long, e) in
-    let after : take end (take start all ++ (now ++ rest)) ≡ front ++ take count now =
-    ap (λ x. take end (x ++ (now ++ rest))) b ∙ ap (λ k. take k (front ++ (now ++ rest))) (omega (arith, n, long))
+-- the bytes of a room up to the last that is written behind its front
+taken_behind : (start count end : ℕ) (all now rest front : List ℕ) → take start all ≡ front → length front ≡ start
+    → count ≤ length now → end ≡ start + count → take end (take start all ++ (now ++ rest)) ≡ front ++ take count now
+taken_behind start count end all now rest front b long fits n =
+    ap (λ x. take end (x ++ (now ++ rest))) b
+    ∙ ap (λ k. take k (front ++ (now ++ rest))) (omega (arith, n, long))
     ∙ take-append-add front (now ++ rest) count
-    ∙ ap (λ x. front ++ x) (take-append-le count now rest (omega (arith, l, fits))) in
-    let calls : FoldsTo (Puts (room - length front)) [] p.parts (take count now) =
-    subst (λ k. FoldsTo (Puts k) [] p.parts (take count now)) left p.calls in
+    ∙ ap (λ x. front ++ x) (take-append-le count now rest fits)
+
+-- what is put in pieces into the last k bytes of a room, of which the first len are written, is put behind what is written
+pub printed_behind : (room len start k count end : ℕ) (all now rest front : List ℕ) (shown : Option (List ℕ))
+    → take len all ≡ front → len ≤ room → length all ≡ room → start ≡ len → k ≡ room - start
+    → length now ≡ length (take k (drop start all)) → count ≤ length (take k (drop start all)) → end ≡ start + count
+    → PutInPieces (length (take k (drop start all))) shown [] (take count now)
+    → PutInPieces room shown front (take end (take start all ++ (now ++ rest)))
+printed_behind room len start k count end all now rest front None b h e s t l fits n p = tt
+printed_behind room len start k count end all now rest front (Some text) b h e s t l fits n p =
+    let before : take start all ≡ front = ap (λ x. take x all) s ∙ b in
+    let long : length front ≡ start = ap length (sym before) ∙ length-take-le start all (omega (arith, h, e, s)) in
+    let few : k ≤ length (drop start all) = omega (arith, length-drop start all, t, e) in
+    let left : length (take k (drop start all)) ≡ room - length front = length-take-le k (drop start all) few ∙ omega (arith, t, long) in
+    let calls : FoldsTo (Puts (room - length front)) [] p.parts (take count now) = rw (sym left) p.calls in
+    let after = taken_behind start count end all now rest front before long (omega (arith, l, fits)) n in
+    let placed = behind room front (omega (arith, long, s, h)) [] p.parts (take count now) calls in
     record {
       parts = p.parts;
-      calls = rw after (subst (λ x. FoldsTo (Puts room) x p.parts (front ++ take count now)) (append-nil front)
-          (behind room front (omega (arith, long, h)) [] p.parts (take count now) calls));
+      calls = rw after (subst (λ x. FoldsTo (Puts room) x p.parts (front ++ take count now)) (append-nil front) placed);
       whole = p.whole;
     }
